@@ -1,0 +1,22 @@
+-- What holds of messages and words, for every number of variables and every order.
+use mathlib.Core.Path.{_≡_}
+use mathlib.Core.List.{List}
+use mathlib.Core.Logic.{_↔_}
+use Prim.Native.Nat.{ℕ}
+use lib.ListN.{length}
+use Rattle.polynomials.specs.Monomials.{monomials}
+use Rattle.polynomials.specs.Binomials.{dimension}
+use Rattle.polynomials.specs.Words.{Table, Encodes, OnlyEncodes}
+use Rattle.polynomials.specs.Coefficients.{Degree≤}
+
+-- order r admits as many monomials as the sum of the binomials says
+abbrev pub Monomials-counted : Type 0
+Monomials-counted = (m r : ℕ) → length (monomials m r) ≡ dimension m r
+
+-- the words of order r are the tables of degree at most r
+abbrev pub Words-are-low-degree : Type 0
+Words-are-low-degree = (m r : ℕ) (table : List ℕ) → Table m table → ((message : List ℕ) × Encodes m r message table) ↔ Degree≤ m r table
+
+-- different messages have different words: where a message has a word, no other has it
+abbrev pub Words-differ : Type 0
+Words-differ = (m r : ℕ) (message table : List ℕ) → Encodes m r message table → OnlyEncodes m r message table

@@ -1,0 +1,7 @@
+pub mod Sums
+pub mod Monomials
+pub mod Binomials
+pub mod Messages
+pub mod Words
+pub mod Coefficients
+pub mod Laws

@@ -1,0 +1,74 @@
+-- Refusals: what each tells, and the first row that holds at each call.
+use mathlib.Core.Path.{_≡_}
+use mathlib.Core.List.{List, [], _∷_}
+use mathlib.Core.Bool.{cond, not}
+use mathlib.Core.Logic.{_⊎_}
+use Prim.Native.Nat.{ℕ, _+_, _^_}
+use lib.Dec.{ltb, eqb}
+use lib.ListN.{length}
+use Rattle.std.specs.declared.option.Option.{Option}
+use Rattle.std.specs.declared.option.Option.the-variants.{Some, None}
+use Rattle.polynomials.specs.Binomials.{dimension}
+use Rattle.polynomials.specs.Words.{Encodes}
+use Rattle.words.specs.declared.refusals.Fault.{Fault}
+use Rattle.words.specs.declared.refusals.Fault.the-variants.{Byte}
+use Rattle.words.specs.declared.refusals.Refusal.{Refusal}
+use Rattle.words.specs.declared.refusals.Refusal.the-variants.{Variables, Order, Length, Room, At, NoWord}
+
+-- what a refusal tells: the number of its row, alone or with a place and the byte that was found there
+pub data Told : Type 0 where
+  row : ℕ → Told
+  row-at : ℕ → ℕ → ℕ → Told
+
+-- the number of the row
+abbrev pub number : Told → ℕ
+number (row n) = n
+number (row-at n place byte) = n
+
+-- what a fault at a place tells
+abbrev pub toldAt : ℕ → Fault → Told
+toldAt place (Byte b) = row-at 8 place b
+
+-- what each refusal tells
+abbrev pub told : Refusal → Told
+told Variables = row 1
+told Order = row 2
+told Length = row 6
+told Room = row 7
+told (At place fault) = toldAt place fault
+told NoWord = row 10
+
+-- rows 1 and 2, the number of variables and the order, and then the rows after them
+abbrev pub sizeRow : ℕ → ℕ → Option Told → Option Told
+sizeRow m r later = cond (ltb 8 m) (Some (row 1)) (cond (ltb m r) (Some (row 2)) later)
+
+-- row 8: the first byte above 1, where the first of the bytes stands at this place
+abbrev pub byteRow : ℕ → List ℕ → Option Told
+byteRow place [] = None
+byteRow place (b ∷ bs) = cond (ltb 1 b) (Some (row-at 8 place b)) (byteRow (place + 1) bs)
+
+-- the first row that holds at dimension
+abbrev pub dimensionRow : ℕ → ℕ → Option Told
+dimensionRow m r = sizeRow m r None
+
+-- the first row that holds at encode, with room for so many bytes
+abbrev pub encodeRow : ℕ → ℕ → List ℕ → ℕ → Option Told
+encodeRow m r message room =
+    sizeRow m r (
+    cond (not (eqb (length message) (dimension m r))) (Some (row 6)) (
+    cond (ltb room (2 ^ m)) (Some (row 7)) (
+    byteRow 0 message)))
+
+-- the first row before 10 that holds at read_back, with room for so many bytes
+abbrev pub tableRow : ℕ → ℕ → List ℕ → ℕ → Option Told
+tableRow m r table room =
+    sizeRow m r (
+    cond (not (eqb (length table) (2 ^ m))) (Some (row 6)) (
+    cond (ltb room (dimension m r)) (Some (row 7)) (
+    byteRow 0 table)))
+
+-- the first row that holds at read_back: row 10 comes where no earlier row holds and no message of order r has the table as its word
+abbrev pub Unreadable : ℕ → ℕ → List ℕ → ℕ → Told → Type 0
+Unreadable m r table room t =
+    (tableRow m r table room ≡ Some t)
+    ⊎ ((tableRow m r table room ≡ None) × (t ≡ row 10) × ((message : List ℕ) → Encodes m r message table → ⊥))

@@ -1,0 +1,9 @@
+// Messages and words: the dimension of a code, encoding, and reading back.
+mod encoding;
+mod refusals;
+mod sizes;
+
+pub use encoding::encode;
+pub use refusals::Fault;
+pub use refusals::Refusal;
+pub use sizes::dimension;
