@@ -12,7 +12,7 @@ use Rattle.std.specs.shelf.Lists.{All}
 use Rattle.std.specs.Iters.{counting}
 use Rattle.std.proofs.shelf.Tests.{cases-eq, lt-leb, leb-false}
 use Rattle.std.proofs.shelf.Elements.{all-getD, all-map}
-use Rattle.std.proofs.shelf.Counted.{getD-map-counting, fill-by-all}
+use Rattle.std.proofs.shelf.Counted.{getD-map-counting, length-map-counting, fill-by-all}
 use Rattle.polynomials.specs.Sums.{total}
 use Rattle.polynomials.specs.Monomials.{admits, monomials, value}
 use Rattle.polynomials.specs.Binomials.{dimension}
@@ -44,6 +44,9 @@ coefficient-word m r message s h =
     ∙ ap (λ t. t % 2) (parts-ext m (sumAt (monomials m r) message) (parts m (lookup (monomials m r) message)) s
     (λ p l. spread (admits r) (2 ^ m) p message))
     ∙ inversion m (lookup (monomials m r) message) s h
+
+pub length-word : (m r : ℕ) (message : List ℕ) → length (wordOf m r message) ≡ 2 ^ m
+length-word m r message = length-map-counting (λ p. sumAt (monomials m r) message p % 2) 0 (2 ^ m)
 
 pub word-low-degree : (m r : ℕ) (message : List ℕ) → Degree≤ m r (wordOf m r message)
 word-low-degree m r message s h l =
@@ -81,6 +84,13 @@ coefficients-message m r table = record {
 
 pub encodes-coefficients : (m r : ℕ) (table : List ℕ) → Table m table → Degree≤ m r table → Encodes m r (coefficients m r table) table
 encodes-coefficients m r table t h = record { valid = coefficients-message m r table; word = word-of-coefficients m r table t h }
+
+pub encodes-table : (m r : ℕ) (message table : List ℕ) → Encodes m r message table → Table m table
+encodes-table m r message table e =
+    subst (Table m) (e .word) (record {
+      long = length-word m r message;
+      bits = all-map (λ x. x < 2) (λ p. sumAt (monomials m r) message p % 2) (counting 0 (2 ^ m)) (all-any (λ p. sumAt (monomials m r) message p % 2 < 2) (λ p. omega arith) (counting 0 (2 ^ m)));
+    })
 
 pub encodes-low-degree : (m r : ℕ) (message table : List ℕ) → Encodes m r message table → Degree≤ m r table
 encodes-low-degree m r message table e = subst (Degree≤ m r) (e .word) (word-low-degree m r message)

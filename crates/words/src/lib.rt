@@ -1,9 +1,11 @@
 // Messages and words: the dimension of a code, encoding, and reading back.
 mod encoding;
+mod reading;
 mod refusals;
 mod sizes;
 
 pub use encoding::encode;
+pub use reading::read_back;
 pub use refusals::Fault;
 pub use refusals::Refusal;
 pub use sizes::dimension;

@@ -1,0 +1,104 @@
+-- The first row that holds, through a chain of rows: what its number is, and what is known where none holds.
+use mathlib.Core.Path.{_≡_, refl, sym, ap, subst, _∙_}
+use mathlib.Core.List.{List, [], _∷_}
+use mathlib.Core.Bool.{Bool, true, false, cond, not}
+use mathlib.Core.Logic.{inl, inr}
+use Prim.Native.Nat.{ℕ, _+_, _^_, _≤_, _<_}
+use native.Mathlib.Omega.{arith}
+use lib.Dec.{ltb, eqb}
+use lib.ListN.{length}
+use Rattle.std.specs.declared.option.Option.{Option}
+use Rattle.std.specs.declared.option.Option.the-variants.{Some, None}
+use Rattle.std.proofs.shelf.Tests.{ltb-false, eqb-true, eq-eqb, le-ltb, cond-false}
+use Rattle.polynomials.specs.Binomials.{dimension}
+use Rattle.polynomials.specs.Messages.{Bits, Message}
+use Rattle.polynomials.specs.Words.{Table, Encodes}
+use Rattle.polynomials.specs.Coefficients.{coefficients, Degree≤}
+use Rattle.polynomials.proofs.Reading.{encodes-table, encodes-coefficients}
+use Rattle.words.specs.Refusals.{Told, row, row-at, number, sizeRow, byteRow, encodeRow, tableRow, Unreadable}
+
+-- what holds of this row and of each row after it holds of the first row that holds
+first-row : (P : Told → Type 0) (b : Bool) (x : Told) (later : Option Told) → P x → ((t : Told) → later ≡ Some t → P t)
+    → (t : Told) → cond b (Some x) later ≡ Some t → P t
+first-row P true x later p q t e = let same : x ≡ t = cc in subst P same p
+first-row P false x later p q t e = q t e
+
+-- where no row holds, this one does not, and none after it does
+no-row : (b : Bool) (x : Told) (later : Option Told) → cond b (Some x) later ≡ None → (b ≡ false) × (later ≡ None)
+no-row true x later e = let z : _≡_ {A = ℕ} 0 1 = cc in absurd (omega arith)
+no-row false x later e = (refl, e)
+
+byte-row-8 : (place : ℕ) (bs : List ℕ) (t : Told) → byteRow place bs ≡ Some t → number t < 10
+byte-row-8 place [] t e = let z : _≡_ {A = ℕ} 0 1 = cc in absurd (omega arith)
+byte-row-8 place (b ∷ bs) t e =
+    first-row (λ t. number t < 10) (ltb 1 b) (row-at 8 place b) (byteRow (place + 1) bs) (omega arith) (byte-row-8 (place + 1) bs) t e
+
+table-row-below-10 : (m r : ℕ) (table : List ℕ) (room : ℕ) (t : Told) → tableRow m r table room ≡ Some t → number t < 10
+table-row-below-10 m r table room =
+    first-row P (ltb 8 m) (row 1) _ (omega arith)
+    (first-row P (ltb m r) (row 2) _ (omega arith)
+    (first-row P (not (eqb (length table) (2 ^ m))) (row 6) _ (omega arith)
+    (first-row P (ltb room (dimension m r)) (row 7) _ (omega arith)
+    (byte-row-8 0 table))))
+  where
+    P : Told → Type 0
+    P t = number t < 10
+
+no-byte-row : (place : ℕ) (bs : List ℕ) → byteRow place bs ≡ None → Bits bs
+no-byte-row place [] e = tt
+no-byte-row place (b ∷ bs) e =
+    let n = no-row (ltb 1 b) (row-at 8 place b) (byteRow (place + 1) bs) e in
+    (omega (arith, ltb-false 1 b (n .0)), no-byte-row (place + 1) bs (n .1))
+
+no-table-row : (m r : ℕ) (table : List ℕ) (room : ℕ) → tableRow m r table room ≡ None → Table m table
+no-table-row m r table room e =
+    let n = no-row _ _ _ (no-row (ltb m r) _ _ (no-row (ltb 8 m) _ _ e .1) .1) in
+    record {
+      long = eqb-true (length table) (2 ^ m) (not-false _ (n .0));
+      bits = no-byte-row 0 table (no-row _ _ _ (n .1) .1);
+    }
+  where
+    not-false : (b : Bool) → not b ≡ false → b ≡ true
+    not-false true e = refl
+    not-false false e = sym e
+
+bits-no-row : (place : ℕ) (bs : List ℕ) → Bits bs → byteRow place bs ≡ None
+bits-no-row place [] h = refl
+bits-no-row place (b ∷ bs) h = cond-false (ltb 1 b) _ _ (le-ltb 1 b (omega (arith, h .0))) ∙ bits-no-row (place + 1) bs (h .1)
+
+table-no-row : (m r : ℕ) (table : List ℕ) (room : ℕ) → m ≤ 8 → r ≤ m → Table m table → dimension m r ≤ room → tableRow m r table room ≡ None
+table-no-row m r table room few low t long =
+    cond-false _ _ _ (le-ltb 8 m few)
+    ∙ cond-false _ _ _ (le-ltb m r low)
+    ∙ cond-false _ _ _ (ap not (eq-eqb (length table) (2 ^ m) (t .long)))
+    ∙ cond-false _ _ _ (le-ltb room (dimension m r) long)
+    ∙ bits-no-row 0 table (t .bits)
+
+message-no-row : (m r : ℕ) (message : List ℕ) (room : ℕ) → m ≤ 8 → r ≤ m → Message m r message → 2 ^ m ≤ room → encodeRow m r message room ≡ None
+message-no-row m r message room few low v long =
+    cond-false _ _ _ (le-ltb 8 m few)
+    ∙ cond-false _ _ _ (le-ltb m r low)
+    ∙ cond-false _ _ _ (ap not (eq-eqb (length message) (dimension m r) (v .long)))
+    ∙ cond-false _ _ _ (le-ltb room (2 ^ m) long)
+    ∙ bits-no-row 0 message (v .bits)
+
+-- a message is accepted wherever there is room for its word
+pub message-encodable : (m r : ℕ) (message : List ℕ) (room : ℕ) (t : Told) → Message m r message → m ≤ 8 → r ≤ m → 2 ^ m ≤ room
+    → encodeRow m r message room ≡ Some t → ⊥
+message-encodable m r message room t v few low long e =
+    let n = message-no-row m r message room few low v long in
+    let z : _≡_ {A = ℕ} 0 1 = cc in omega arith
+
+-- row 10 comes only at a table of higher degree
+pub unreadable-degree : (m r : ℕ) (table : List ℕ) (room : ℕ) (t : Told) → Unreadable m r table room t → t ≡ row 10 → Degree≤ m r table → ⊥
+unreadable-degree m r table room t (inl e) ten low = omega (arith, table-row-below-10 m r table room t e, ap number ten)
+unreadable-degree m r table room t (inr e) ten low =
+    e .2 (coefficients m r table) (encodes-coefficients m r table (no-table-row m r table room (e .0)) low)
+
+-- a word is readable wherever there is room for its message
+pub word-readable : (m r : ℕ) (message table : List ℕ) (room : ℕ) (t : Told) → Encodes m r message table → m ≤ 8 → r ≤ m → dimension m r ≤ room
+    → Unreadable m r table room t → ⊥
+word-readable m r message table room t w few low long (inl e) =
+    let n = table-no-row m r table room few low (encodes-table m r message table w) long in
+    let z : _≡_ {A = ℕ} 0 1 = cc in omega arith
+word-readable m r message table room t w few low long (inr e) = e .2 message w
