@@ -44,11 +44,23 @@ table-row-below-10 m r table room =
     P : Told → Type 0
     P t = number t < 10
 
-no-byte-row : (place : ℕ) (bs : List ℕ) → byteRow place bs ≡ None → Bits bs
+pub no-byte-row : (place : ℕ) (bs : List ℕ) → byteRow place bs ≡ None → Bits bs
 no-byte-row place [] e = tt
 no-byte-row place (b ∷ bs) e =
     let n = no-row (ltb 1 b) (row-at 8 place b) (byteRow (place + 1) bs) e in
     (omega (arith, ltb-false 1 b (n .0)), no-byte-row (place + 1) bs (n .1))
+
+not-false : (b : Bool) → not b ≡ false → b ≡ true
+not-false true e = refl
+not-false false e = sym e
+
+pub no-encode-row : (m r : ℕ) (message : List ℕ) (room : ℕ) → encodeRow m r message room ≡ None → Message m r message
+no-encode-row m r message room e =
+    let n = no-row _ _ _ (no-row (ltb m r) _ _ (no-row (ltb 8 m) _ _ e .1) .1) in
+    record {
+      long = eqb-true (length message) (dimension m r) (not-false _ (n .0));
+      bits = no-byte-row 0 message (no-row _ _ _ (n .1) .1);
+    }
 
 no-table-row : (m r : ℕ) (table : List ℕ) (room : ℕ) → tableRow m r table room ≡ None → Table m table
 no-table-row m r table room e =
@@ -57,10 +69,6 @@ no-table-row m r table room e =
       long = eqb-true (length table) (2 ^ m) (not-false _ (n .0));
       bits = no-byte-row 0 table (no-row _ _ _ (n .1) .1);
     }
-  where
-    not-false : (b : Bool) → not b ≡ false → b ≡ true
-    not-false true e = refl
-    not-false false e = sym e
 
 bits-no-row : (place : ℕ) (bs : List ℕ) → Bits bs → byteRow place bs ≡ None
 bits-no-row place [] h = refl

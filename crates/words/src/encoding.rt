@@ -84,6 +84,7 @@ fn write_word(m: u32, r: u32, message: &[u8], word: &mut [u8]) -> usize
 pub fn encode(m: u32, r: u32, message: &[u8], word: &mut [u8]) -> Result<usize, Refusal>
     ensures refused { λ a. ⌜ Cases a (λ _. encodeRow m r (now (message .entry)) (length (now (word .entry))) ≡ None) (λ e. encodeRow m r (now (message .entry)) (length (now (word .entry))) ≡ Some (told e)) ⌝ }
     ensures written { λ a. ⌜ Cases a (λ n. (n ≡ 2 ^ m) × (now (word .exit) ≡ wordOf m r (now (message .entry)) ++ drop n (now (word .entry)))) (λ _. now (word .exit) ≡ now (word .entry)) ⌝ }
+    ensures bound { λ a. ⌜ made a (λ n. n ≤ length (now (word .entry))) ⌝ }
     ensures degree { λ a. ⌜ made a (λ n. Degree≤ m r (take n (now (word .exit)))) ⌝ }
     ensures only { λ a. ⌜ made a (λ n. OnlyEncodes m r (now (message .entry)) (take n (now (word .exit)))) ⌝ }
     ensures undoes_read_back { λ a. ⌜ ((table : List ℕ) → Encodes m r (now (message .entry)) table → m ≤ 8 → r ≤ m → 2 ^ m ≤ length (now (word .entry)) → Cases a (λ n. take n (now (word .exit)) ≡ table) (λ _. ⊥)) ⌝ }

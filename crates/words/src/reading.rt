@@ -4,6 +4,7 @@ ghost use mathlib.Core.List.{List, _++_};
 ghost use Prim.Native.Nat.{ℕ, _^_, _%_, _*_, _≤_};
 ghost use lib.ListN.{length, getD, take, drop};
 ghost use Rattle.std.specs.Results.{Cases};
+ghost use Rattle.std.specs.Vec.{made};
 ghost use Rattle.std.specs.declared.option.Option.the-variants.{None};
 ghost use Rattle.polynomials.specs.Sums.{total};
 ghost use Rattle.polynomials.specs.Monomials.{value};
@@ -50,8 +51,8 @@ fn check_degree(m: u32, r: u32, table: &[u8]) -> Result<(), Refusal>
 // Refuses what cannot be read back into so much room; answers the length of the message.
 fn check_table(m: u32, r: u32, table: &[u8], room: usize) -> Result<usize, Refusal>
     ensures refused { λ a. ⌜ Cases a (λ _. tableRow m r (now (table .entry)) room ≡ None) (λ e. Unreadable m r (now (table .entry)) room (told e)) ⌝ }
-    ensures sizes { λ a. ⌜ Cases a (λ k. (m ≤ 8) × (k ≡ dimension m r) × (k ≤ room)) (λ _. Unit {0}) ⌝ }
-    ensures word { λ a. ⌜ Cases a (λ _. Table m (now (table .entry)) × Degree≤ m r (now (table .entry))) (λ _. Unit {0}) ⌝ }
+    ensures sizes { λ a. ⌜ made a (λ k. (m ≤ 8) × (k ≡ dimension m r) × (k ≤ room)) ⌝ }
+    ensures word { λ a. ⌜ made a (λ _. Table m (now (table .entry)) × Degree≤ m r (now (table .entry))) ⌝ }
 {
     let k = dimension(m, r)?;
     if table.len() != points(m) {
@@ -86,6 +87,7 @@ fn write_message(m: u32, r: u32, table: &[u8], message: &mut [u8])
 pub fn read_back(m: u32, r: u32, table: &[u8], message: &mut [u8]) -> Result<usize, Refusal>
     ensures refused { λ a. ⌜ Cases a (λ _. tableRow m r (now (table .entry)) (length (now (message .entry))) ≡ None) (λ e. Unreadable m r (now (table .entry)) (length (now (message .entry))) (told e)) ⌝ }
     ensures written { λ a. ⌜ Cases a (λ k. (k ≡ dimension m r) × OnlyEncodes m r (take k (now (message .exit))) (now (table .entry)) × (drop k (now (message .exit)) ≡ drop k (now (message .entry)))) (λ _. now (message .exit) ≡ now (message .entry)) ⌝ }
+    ensures bound { λ a. ⌜ made a (λ k. k ≤ length (now (message .entry))) ⌝ }
     ensures degree { λ a. ⌜ Cases a (λ _. Degree≤ m r (now (table .entry))) (λ e. told e ≡ row 10 → Degree≤ m r (now (table .entry)) → ⊥) ⌝ }
     ensures undoes_encode { λ a. ⌜ ((sent : List ℕ) → Encodes m r sent (now (table .entry)) → m ≤ 8 → r ≤ m → dimension m r ≤ length (now (message .entry)) → Cases a (λ k. take k (now (message .exit)) ≡ sent) (λ _. ⊥)) ⌝ }
 {

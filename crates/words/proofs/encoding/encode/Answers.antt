@@ -1,4 +1,5 @@
 use mathlib.Core.Path.{_≡_, sym, ap, subst, _∙_}
+use native.Mathlib.Omega.{arith}
 use lib.ListN.{take}
 use Rattle.std.proofs.shelf.Lists.{take-at}
 use Rattle.std.proofs.shelf.Results.{err-from-errBy}
@@ -15,6 +16,7 @@ returns-in-Break-check-message c =
     record {
       refused = rw (p .1, p .2) no;
       written = rw (p .1);
+      bound = rw (p .1) tt;
       degree = rw (p .1) tt;
       only = rw (p .1) tt;
       undoes-read-back = λ table e few low long. rw (p .1) (message-encodable _ _ _ _ _ (e .valid) few low long no);
@@ -30,6 +32,7 @@ returns c =
     record {
       refused = ok .refused;
       written = (n, c .write-word .ensures .written);
+      bound = omega (arith, n, ok .sizes .1);
       degree = subst (Degree≤ (c .args .m) (c .args .r)) (sym word) (word-low-degree (c .args .m) (c .args .r) (c .args .message .now));
       only = words-differ _ _ _ _ (record { valid = ok .message; word = sym word });
       undoes-read-back = λ table e few low long. word ∙ e .word;

@@ -15,6 +15,7 @@ returns-in-Break-k c =
     record {
       refused = rw (p .1, p .2) no;
       written = rw (p .1);
+      bound = rw (p .1) tt;
       degree = rw (p .1, p .2) (unreadable-degree _ _ _ _ _ no);
       undoes-encode = λ sent e few low long. rw (p .1) (word-readable _ _ _ _ _ _ e few low long no);
     }
@@ -37,6 +38,7 @@ returns c =
         only,
         ap (drop (c .in-Continue-k .k)) (c .write-message .ensures) ∙ drop-at found _ _ long ∙ ap (λ n. drop n (c .args .message .now)) (sym k),
       );
+      bound = ok .sizes .2;
       degree = ok .word .1;
       undoes-encode = λ sent e few low long. sym (only .only sent e);
     }
