@@ -27,14 +27,31 @@ no-word m r room table s e l h c = inr (e, refl, λ message w. omega (arith, enc
 
 pub table-holds : Table-holds
 unfolding value ones onesIn
-table-holds =
-    (refl,
-    (refl,
-    ((refl, refl),
-    ((refl, found 4 3 16 _ _ refl refl),
-    (no-word 2 1 3 _ 3 refl (lit< tt) (lit< tt) refl,
-    (refl,
-    (refl,
-    (refl,
-    (refl,
-    tt)))))))))
+table-holds = (
+  refl,
+  (
+    refl,
+    (
+      (refl, refl),
+      (
+        (refl, found 4 3 16 _ _ refl refl),
+        (
+          no-word 2 1 3 _ 3 refl (lit< tt) (lit< tt) refl,
+          (
+            refl,
+            (
+              refl,
+              (
+                refl,
+                (
+                  refl,
+                  tt,
+                ),
+              ),
+            ),
+          ),
+        ),
+      ),
+    ),
+  ),
+)

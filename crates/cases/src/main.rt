@@ -1,8 +1,13 @@
-// The worked cases: proved of the definitions, all in one theorem, and here asked of the library and printed.
+// The worked cases: one theorem proves them all of the definitions; here the library is asked them, with more beside, and its answers printed.
 ghost use mathlib.Core.Path.{_≡_};
 ghost use lib.ListN.{length};
 ghost use Rattle.cases.specs.Table.{table, Table-holds};
 use std::io;
+use words::Fault;
+use words::Refusal;
+use words::dimension;
+use words::encode;
+use words::read_back;
 
 // How many worked cases there are, each of which holds of the definitions.
 fn worked_cases() -> usize
@@ -12,7 +17,106 @@ fn worked_cases() -> usize
     9
 }
 
+// Prints bytes as digits, and then a line feed.
+fn print_digits(rt: &LibcRuntime, bytes: &[u8]) -> io::Result<()> {
+    for byte in bytes {
+        print!(rt, "{byte}")?;
+    }
+    println!(rt, "")
+}
+
+// Prints the row of a refusal and what comes with it.
+fn print_refusal(rt: &LibcRuntime, refusal: Refusal) -> io::Result<()> {
+    let row = refusal.number();
+    match refusal {
+        Refusal::At(place, Fault::Byte(byte)) => println!(
+            rt,
+            "refused {row} at place {place}, byte {byte}"
+        ),
+        _ => println!(rt, "refused {row}"),
+    }
+}
+
+// Asks for the dimension, and prints the answer.
+fn ask_dimension(rt: &LibcRuntime, m: u32, r: u32) -> io::Result<()> {
+    print!(rt, "dimension of order {r} in {m} variables: ")?;
+    match dimension(m, r) {
+        Ok(k) => println!(rt, "{k}"),
+        Err(refusal) => print_refusal(rt, refusal),
+    }
+}
+
+// Encodes with room for so many bytes, 256 at most, and prints the answer.
+fn ask_encode(rt: &LibcRuntime, m: u32, r: u32, message: &[u8], room: usize) -> io::Result<()> {
+    let mut buffer = [0u8; 256];
+    let word = &mut buffer[0..room.min(256)];
+    print!(rt, "encode, order {r} in {m} variables: ")?;
+    match encode(m, r, message, word) {
+        Ok(n) => print_digits(rt, &word[0..n]),
+        Err(refusal) => print_refusal(rt, refusal),
+    }
+}
+
+// Reads back with room for so many bytes, 256 at most, and prints the answer.
+fn ask_read_back(rt: &LibcRuntime, m: u32, r: u32, table: &[u8], room: usize) -> io::Result<()> {
+    let mut buffer = [0u8; 256];
+    let message = &mut buffer[0..room.min(256)];
+    print!(rt, "read back, order {r} in {m} variables: ")?;
+    match read_back(m, r, table, message) {
+        Ok(k) => print_digits(rt, &message[0..k]),
+        Err(refusal) => print_refusal(rt, refusal),
+    }
+}
+
+// The rows of dimension.
+fn dimensions(rt: &LibcRuntime) -> io::Result<()> {
+    ask_dimension(rt, 8, 4)?;
+    ask_dimension(rt, 0, 0)?;
+    ask_dimension(rt, 9, 4)?;
+    ask_dimension(rt, 4294967295, 4294967295)?;
+    ask_dimension(rt, 8, 9)
+}
+
+// The rows of encode.
+fn encodings(rt: &LibcRuntime) -> io::Result<()> {
+    ask_encode(
+        rt,
+        4,
+        3,
+        &[0, 0, 1, 0, 0, 0, 1, 1, 0, 0, 0, 0, 1, 0, 1],
+        256,
+    )?;
+    ask_encode(rt, 9, 0, &[1], 256)?;
+    ask_encode(rt, 3, 4, &[1], 256)?;
+    ask_encode(rt, 3, 1, &[0, 1, 0], 256)?;
+    ask_encode(rt, 3, 1, &[0, 1, 2, 3], 7)?;
+    ask_encode(rt, 3, 1, &[0, 1, 2, 3], 8)
+}
+
+// The rows of read_back.
+fn readings(rt: &LibcRuntime) -> io::Result<()> {
+    ask_read_back(
+        rt,
+        4,
+        3,
+        &[1, 1, 0, 0, 1, 1, 0, 1, 0, 0, 1, 1, 1, 1, 0, 1],
+        256,
+    )?;
+    ask_read_back(rt, 2, 1, &[0, 0, 0, 1], 3)?;
+    ask_read_back(rt, 9, 1, &[0, 0, 0, 1], 256)?;
+    ask_read_back(rt, 2, 3, &[0, 0, 0, 1], 256)?;
+    ask_read_back(rt, 2, 1, &[0, 0, 1], 256)?;
+    ask_read_back(rt, 2, 1, &[0, 0, 0, 9], 2)?;
+    ask_read_back(rt, 2, 1, &[0, 0, 0, 9], 3)
+}
+
 fn main(rt: LibcRuntime) -> io::Result<()> {
     let n = worked_cases();
-    println!(rt, "{n} worked cases hold of the definitions. The library's answers:")
+    println!(
+        rt,
+        "{n} worked cases hold of the definitions. The library answers:"
+    )?;
+    dimensions(&rt)?;
+    encodings(&rt)?;
+    readings(&rt)
 }

@@ -27,8 +27,8 @@ returns c =
     let ok = c .in-Continue-check-message .ensures tt in
     let n = c .write-word .ensures .points in
     let word : take (c .write-word .result) (c .write-word .last .word) ≡ wordOf (c .args .m) (c .args .r) (c .args .message .now)
-        = ap (take (c .write-word .result)) (c .write-word .ensures .written)
-        ∙ take-at (wordOf (c .args .m) (c .args .r) (c .args .message .now)) _ _ (length-word _ _ _ ∙ sym n) in
+    = ap (take (c .write-word .result)) (c .write-word .ensures .written)
+    ∙ take-at (wordOf (c .args .m) (c .args .r) (c .args .message .now)) _ _ (length-word _ _ _ ∙ sym n) in
     record {
       refused = ok .refused;
       written = (n, c .write-word .ensures .written);
