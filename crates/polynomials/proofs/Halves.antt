@@ -1,6 +1,6 @@
 -- Sets of m + 1 variables in two halves, those without and those with the topmost variable, 2 ^ m: what value and ones are there.
 use mathlib.Core.Path.{_≡_, sym, ap, _∙_}
-use mathlib.Core.Bool.{cond}
+use mathlib.Core.Bool.{true, false, cond}
 use mathlib.Core.Logic.{inl, inr}
 use Prim.Native.Nat.{ℕ, suc, _+_, _^_, _<_}
 use native.Mathlib.Nat.{zero-mul, one-mul, zero-add, pow-suc}
@@ -8,18 +8,24 @@ use native.Mathlib.Omega.{arith}
 use lib.Bits.{bitAnd, and-block, and-le-r}
 use lib.Count.{ones, ones-cat}
 use Rattle.std.proofs.shelf.Tests.{eq-eqb, ne-eqb, cases-eq}
-use Rattle.polynomials.specs.Monomials.{value}
+use Rattle.polynomials.specs.Monomials.{inside, value}
 
 pub pow-twice : (m : ℕ) → 2 ^ suc m ≡ 2 ^ m + 2 ^ m
 pow-twice m = rw pow-suc (omega arith)
 
-pub value-yes : (a b : ℕ) → bitAnd a b ≡ a → value a b ≡ 1
+pub value-one : (a b : ℕ) → inside a b ≡ true → value a b ≡ 1
 unfolding value
-value-yes a b e = ap (λ t. cond t 1 0) (eq-eqb (bitAnd a b) a e)
+value-one a b e = ap (λ t. cond t 1 0) e
+
+pub value-zero : (a b : ℕ) → inside a b ≡ false → value a b ≡ 0
+unfolding value
+value-zero a b e = ap (λ t. cond t 1 0) e
+
+pub value-yes : (a b : ℕ) → bitAnd a b ≡ a → value a b ≡ 1
+value-yes a b e = value-one a b (eq-eqb (bitAnd a b) a e)
 
 pub value-no : (a b : ℕ) → (bitAnd a b ≡ a → ⊥) → value a b ≡ 0
-unfolding value
-value-no a b e = ap (λ t. cond t 1 0) (ne-eqb (bitAnd a b) a e)
+value-no a b e = value-zero a b (ne-eqb (bitAnd a b) a e)
 
 value-like : (a b c d : ℕ) → (bitAnd a b ≡ a → bitAnd c d ≡ c) → (bitAnd c d ≡ c → bitAnd a b ≡ a) → value a b ≡ value c d
 value-like a b c d to from =

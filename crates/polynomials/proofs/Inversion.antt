@@ -1,4 +1,4 @@
--- Inversion modulo 2: to sum over the parts of each set, and then again, gives each value back. By induction over the variables, in halves.
+-- Inversion modulo 2, by induction over the variables, in halves: the sets without and with the topmost variable.
 use mathlib.Core.Path.{_≡_, refl, ap, ap₂, _∙_, subst}
 use mathlib.Core.Logic.{inl, inr}
 use Prim.Native.Nat.{ℕ, zero, suc, _+_, _-_, _*_, _^_, _%_, _<_}
@@ -8,12 +8,10 @@ use lib.Arith.{lt-one}
 use Rattle.std.proofs.shelf.Tests.{cases-lt}
 use Rattle.polynomials.specs.Sums.{total}
 use Rattle.polynomials.specs.Monomials.{value}
+use Rattle.polynomials.specs.Coefficients.{parts}
+use Rattle.polynomials.specs.Laws.{Sums-of-parts-invert}
 use Rattle.polynomials.proofs.Sums.{total-ext, total-none, total-add, total-split}
 use Rattle.polynomials.proofs.Halves.{pow-twice, value-yes, value-low-high, value-high-low, value-high-high}
-
--- the sum of f over the parts of x, among the sets of m variables
-abbrev pub parts : ℕ → (ℕ → ℕ) → ℕ → ℕ
-parts m f x = total (2 ^ m) (λ y. value y x * f y)
 
 pub parts-ext : (m : ℕ) (f g : ℕ → ℕ) (x : ℕ) → ((y : ℕ) → y < 2 ^ m → f y ≡ g y) → parts m f x ≡ parts m g x
 parts-ext m f g x h = total-ext (2 ^ m) _ _ (λ y l. ap (λ t. value y x * t) (h y l))
@@ -56,7 +54,7 @@ inversion-high m ih f x h =
       ih up x h,
     )
 
-pub inversion : (m : ℕ) (f : ℕ → ℕ) (x : ℕ) → x < 2 ^ m → parts m (parts m f) x % 2 ≡ f x % 2
+pub inversion : Sums-of-parts-invert
 inversion zero f x h =
     let e : x ≡ 0 = lt-one h in
     let v : value 0 0 ≡ 1 = value-yes 0 0 refl in

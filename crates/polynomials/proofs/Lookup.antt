@@ -10,7 +10,13 @@ use lib.ListN.{length}
 use Rattle.std.specs.shelf.Lists.{kept-by}
 use Rattle.std.proofs.shelf.Tests.{eq-eqb, ne-eqb}
 use Rattle.polynomials.specs.Monomials.{down}
-use Rattle.polynomials.specs.Messages.{Bits, lookup}
+use Rattle.polynomials.specs.Messages.{Bits}
+
+-- the coefficient that the bytes of a message over these monomials give the monomial x; 0 where x is not among them
+abbrev pub lookup : List ℕ → List ℕ → ℕ → ℕ
+lookup [] cs x = 0
+lookup (s ∷ ss) [] x = 0
+lookup (s ∷ ss) (c ∷ cs) x = cond (eqb s x) c (lookup ss cs x)
 
 pub lookup-here : (s : ℕ) (ss : List ℕ) (c : ℕ) (cs : List ℕ) → lookup (s ∷ ss) (c ∷ cs) s ≡ c
 lookup-here s ss c cs = ap (λ t. cond t c (lookup ss cs s)) (eq-eqb s s refl)

@@ -16,15 +16,15 @@ use Rattle.std.proofs.shelf.Counted.{getD-map-counting, length-map-counting, fi
 use Rattle.polynomials.specs.Sums.{total}
 use Rattle.polynomials.specs.Monomials.{admits, monomials, value}
 use Rattle.polynomials.specs.Binomials.{dimension}
-use Rattle.polynomials.specs.Messages.{Bits, Message, lookup}
+use Rattle.polynomials.specs.Messages.{Bits, Message}
 use Rattle.polynomials.specs.Words.{sumAt, wordOf, Table, Encodes}
-use Rattle.polynomials.specs.Coefficients.{coefficient, coefficients, Degree≤}
+use Rattle.polynomials.specs.Coefficients.{parts, coefficient, coefficients, Degree≤}
 use Rattle.polynomials.specs.Laws.{Words-are-low-degree, Words-differ}
 use Rattle.polynomials.proofs.Sums.{total-parity}
 use Rattle.polynomials.proofs.Halves.{value-yes, value-no}
-use Rattle.polynomials.proofs.Inversion.{parts, parts-ext, inversion}
+use Rattle.polynomials.proofs.Inversion.{parts-ext, inversion}
 use Rattle.polynomials.proofs.Counting.{monomials-counted}
-use Rattle.polynomials.proofs.Lookup.{lookup-bit, lookup-unkept, map-kept-ext, map-lookup}
+use Rattle.polynomials.proofs.Lookup.{lookup, lookup-bit, lookup-unkept, map-kept-ext, map-lookup}
 use Rattle.polynomials.proofs.Spreading.{spread, spread-all}
 
 value-parity : (a b t : ℕ) → (value a b * (t % 2)) % 2 ≡ (value a b * t) % 2

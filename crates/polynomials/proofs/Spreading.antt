@@ -8,10 +8,9 @@ use native.Mathlib.Omega.{arith}
 use Rattle.std.specs.shelf.Lists.{kept-by}
 use Rattle.polynomials.specs.Sums.{total}
 use Rattle.polynomials.specs.Monomials.{down, value}
-use Rattle.polynomials.specs.Messages.{lookup}
 use Rattle.polynomials.specs.Words.{sumAt}
 use Rattle.polynomials.proofs.Sums.{total-ext, total-none}
-use Rattle.polynomials.proofs.Lookup.{lookup-here, lookup-other, lookup-past}
+use Rattle.polynomials.proofs.Lookup.{lookup, lookup-here, lookup-other, lookup-past}
 
 spread-step : (n : ℕ) (K : List ℕ) (p : ℕ) → ((cs : List ℕ) → sumAt K cs p ≡ total n (λ s. value s p * lookup K cs s))
     → ((cs : List ℕ) → lookup K cs n ≡ 0)

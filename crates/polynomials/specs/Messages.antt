@@ -17,12 +17,6 @@ pub record Message (m r : ℕ) (message : List ℕ) : Type 0 where
   pub long : length message ≡ dimension m r
   pub bits : Bits message
 
--- the coefficient that the bytes of a message over these monomials give the monomial x; 0 where x is not among them
-abbrev pub lookup : List ℕ → List ℕ → ℕ → ℕ
-lookup [] cs x = 0
-lookup (s ∷ ss) [] x = 0
-lookup (s ∷ ss) (c ∷ cs) x = cond (eqb s x) c (lookup ss cs x)
-
 -- of two messages the one with 0 at their first difference is earlier
 abbrev pub earlier : List ℕ → List ℕ → Bool
 earlier [] ys = false

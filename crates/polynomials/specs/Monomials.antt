@@ -21,6 +21,10 @@ admits r mono = leb (ones mono) r
 abbrev pub monomials : ℕ → ℕ → List ℕ
 monomials m r = kept-by (admits r) (down (2 ^ m))
 
--- a monomial is 1 at a point where each digit that is 1 in its number is 1 in the point, else 0
+-- each digit that is 1 in the first number is 1 in the second: the monomial is 1 at the point; the point lies inside the monomial
+abbrev pub inside : ℕ → ℕ → Bool
+inside a b = eqb (bitAnd a b) a
+
+-- the value of a monomial at a point
 unfoldable pub value : ℕ → ℕ → ℕ
-value mono point = cond (eqb (bitAnd mono point) mono) 1 0
+value mono point = cond (inside mono point) 1 0

@@ -27,7 +27,7 @@ pub record Encodes (m r : ℕ) (message table : List ℕ) : Type 0 where
   pub valid : Message m r message
   pub word : wordOf m r message ≡ table
 
--- and no other message of order r has this word
-pub record OnlyEncodes (m r : ℕ) (message table : List ℕ) : Type 0 where
+-- the table reads back as this message: it is its word, and no other message of order r has this word
+pub record ReadsBack (m r : ℕ) (table message : List ℕ) : Type 0 where
   pub encodes : Encodes m r message table
   pub only : (other : List ℕ) → Encodes m r other table → other ≡ message

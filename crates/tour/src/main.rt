@@ -4,20 +4,26 @@ mod text;
 ghost use mathlib.Core.Path.{_≡_};
 ghost use Prim.Native.Nat.{_+_, _/_, _^_, _≤_, _<_};
 ghost use lib.Bits.{bitXor};
-ghost use lib.ListN.{length, getD, set, take};
-ghost use Rattle.std.specs.Vec.{made};
+ghost use lib.ListN.{length, getD, set};
+ghost use Rattle.std.specs.Results.{Cases};
+ghost use Rattle.polynomials.specs.Words.{wordOf};
+ghost use Rattle.words.specs.Refusals.{refusalOf, byteRow};
 use std::io;
 use text::spelled;
 use words::Refusal;
 use words::encode;
 use words::read_back;
 
-// The grade of the tour: 22 bits in prefix order, a polynomial of order 2 in 6 variables, so a mark of 64 cells.
+// The grade of the tour: a message of order 2 in 6 variables, so 22 bits, and a mark of 64 cells. In a copy of the mark one cell is damaged.
 const VARIABLES: u32 = 6;
 
 const ORDER: u32 = 2;
 
-const GRADE: [u8; 22] = [
+const LENGTH: usize = 22;
+
+const CELLS: usize = 64;
+
+const GRADE: [u8; LENGTH] = [
     0,
     0,
     1,
@@ -42,6 +48,8 @@ const GRADE: [u8; 22] = [
     0,
 ];
 
+const DAMAGED: usize = 27;
+
 // How many cells stand in a row of the picture of a mark: a square where m is even, twice as wide as high where it is odd.
 fn width(m: u32) -> usize
     requires { ⌜ m ≤ 8 ⌝ }
@@ -58,19 +66,19 @@ fn damage(mark: &mut [u8], place: usize)
     mark[place] ^= 1;
 }
 
-// The mark of a grade, and the grade read back from its mark: the same message.
+// Writes the mark of a grade, and the grade that is read back from the mark: the same one.
 fn round_trip(
-    m: u32,
-    r: u32,
-    grade: &[u8],
-    mark: &mut [u8],
-    found: &mut [u8],
-) -> Result<usize, Refusal>
-    ensures same { λ a. ⌜ made a (λ k. take k (now (found .exit)) ≡ now (grade .entry)) ⌝ }
-    ensures bound { λ a. ⌜ made a (λ k. k ≤ length (now (found .exit))) ⌝ }
+    grade: &[u8; LENGTH],
+    mark: &mut [u8; CELLS],
+    found: &mut [u8; LENGTH],
+) -> Result<(), Refusal>
+    ensures refused { λ a. ⌜ refusalOf a ≡ byteRow 0 (now (grade .entry)) ⌝ }
+    ensures mark { λ a. ⌜ Cases a (λ _. now (mark .exit) ≡ wordOf 6 2 (now (grade .entry))) (λ _. now (mark .exit) ≡ now (mark .entry)) ⌝ }
+    ensures found { λ a. ⌜ Cases a (λ _. now (found .exit) ≡ now (grade .entry)) (λ _. now (found .exit) ≡ now (found .entry)) ⌝ }
 {
-    let n = encode(m, r, grade, mark)?;
-    read_back(m, r, &mark[0..n], found)
+    encode(VARIABLES, ORDER, grade, mark)?;
+    read_back(VARIABLES, ORDER, mark, found)?;
+    Ok(())
 }
 
 // Prints a mark of the tour row by row.
@@ -86,42 +94,45 @@ fn show(rt: &LibcRuntime, mark: &[u8]) -> io::Result<()> {
 fn report(rt: &LibcRuntime, answer: Result<usize, Refusal>, found: &[u8]) -> io::Result<()> {
     let message = spelled(rt.alloc(), found, "0", "1")?;
     match answer {
-        Ok(k) => println!(rt, "Read back, {k} bits: {message}"),
+        Ok(_) => println!(rt, "Read back: {message}"),
+        Err(Refusal::NoWord) => println!(
+            rt,
+            "Read back: refused 10, since no grade of order {ORDER} has this mark. The buffer is as before: {message}"
+        ),
         Err(refusal) => {
             let row = refusal.number();
-            println!(
-                rt,
-                "Read back: refused {row}. The buffer still holds {message}"
-            )
+            println!(rt, "Read back: refused {row}")
         }
     }
 }
 
 fn main(rt: LibcRuntime) -> io::Result<()> {
-    let mut mark = [0u8; 64];
-    let mut found = [0u8; 22];
+    let mut mark = [0u8; CELLS];
+    let mut found = [0u8; LENGTH];
     let grade = spelled(rt.alloc(), &GRADE, "0", "1")?;
     println!(
         rt,
         "A grade, as a message of order {ORDER} in {VARIABLES} variables:"
     )?;
     println!(rt, "    {grade}")?;
-    let answer = round_trip(VARIABLES, ORDER, &GRADE, &mut mark, &mut found);
-    println!(rt, "Its mark, a word of 64 cells, ## for 1 and .. for 0:")?;
-    show(&rt, &mark)?;
-    report(&rt, answer, &found)?;
-    if found == GRADE {
-        println!(rt, "It is the same grade.")?;
+    if let Err(refusal) = round_trip(&GRADE, &mut mark, &mut found) {
+        let row = refusal.number();
+        return println!(rt, "refused {row}");
     }
     println!(
         rt,
-        "A copy of the mark with the cell at place 27 turned over:"
+        "Its mark, a word of {CELLS} cells, ## for 1 and .. for 0:"
     )?;
-    damage(&mut mark, 27);
     show(&rt, &mark)?;
-    report(&rt, read_back(VARIABLES, ORDER, &mark, &mut found), &found)?;
+    let message = spelled(rt.alloc(), &found, "0", "1")?;
+    println!(rt, "Read back from the mark, the same grade:")?;
+    println!(rt, "    {message}")?;
+    damage(&mut mark, DAMAGED);
     println!(
         rt,
-        "Row 10 says that no grade of order {ORDER} has this mark."
-    )
+        "A copy of the mark with the cell at place {DAMAGED} turned over:"
+    )?;
+    show(&rt, &mark)?;
+    let answer = read_back(VARIABLES, ORDER, &mark, &mut found);
+    report(&rt, answer, &found)
 }

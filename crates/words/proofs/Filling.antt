@@ -14,14 +14,15 @@ pub record Filling (m r : ℕ) (message before after : List ℕ) (point : ℕ) :
   pub front : take point after ≡ map (λ p. sumAt (monomials m r) message p % 2) (counting 0 point)
   pub rest : drop point after ≡ drop point before
 
-pub filling-more : (m r : ℕ) (message before after : List ℕ) (point b : ℕ) → Filling m r message before after point → point < length after
-    → b ≡ sumAt (monomials m r) message point % 2 → Filling m r message before (set after point b) (point + 1)
-filling-more m r message before after point b h l e = record {
+pub filling-more : (m r : ℕ) (message before after : List ℕ) (point : ℕ) → Filling m r message before after point → point < length after
+    → Filling m r message before (set after point (sumAt (monomials m r) message point % 2)) (point + 1)
+filling-more m r message before after point h l = record {
   front =
-      take-more-set after point b l ∙ ap₂ (λ (xs : List ℕ) (x : ℕ). xs ++ x ∷ []) (h .front) e
+      take-more-set after point (sumAt (monomials m r) message point % 2) l
+      ∙ ap (λ xs. xs ++ (sumAt (monomials m r) message point % 2) ∷ []) (h .front)
       ∙ sym (map-counting-more (λ p. sumAt (monomials m r) message p % 2) 0 point point (omega arith));
   rest =
-      drop-set-lt (point + 1) after point b (omega arith)
+      drop-set-lt (point + 1) after point (sumAt (monomials m r) message point % 2) (omega arith)
       ∙ sym (drop-drop 1 point after) ∙ ap (drop 1) (h .rest) ∙ drop-drop 1 point before;
 }
 

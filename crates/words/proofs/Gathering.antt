@@ -1,9 +1,9 @@
 -- The message read from a table, monomial by monomial from the highest down.
 use mathlib.Core.Path.{_≡_, refl, sym, ap, ap₂, subst, _∙_}
 use mathlib.Core.List.{List, [], _∷_, _++_, map}
+use mathlib.Core.Bool.{true, false}
 use Prim.Native.Nat.{ℕ, zero, suc, _+_, _-_, _^_, _≤_, _<_}
 use native.Mathlib.Omega.{arith}
-use lib.Count.{ones}
 use lib.ListN.{length, set, take, drop}
 use Rattle.std.specs.shelf.Lists.{kept-by}
 use Rattle.std.proofs.shelf.Lists.{take-more-set, drop-set-lt, append-assoc, append-nil, take-append-drop}
@@ -40,12 +40,12 @@ gathering-turn {m} {r} {table} {before} {after} {next} mono l h =
     let e : mono ≡ (mono - 1) + 1 = omega arith in subst (Gathering m r table before after next) e h
 
 module _ (m r : ℕ) (table before after : List ℕ) (next mono : ℕ) (h : Gathering m r table before after next (mono + 1)) where
-  pub gathering-other : r < ones mono → Gathering m r table before after next mono
+  pub gathering-other : admits r mono ≡ false → Gathering m r table before after next mono
   gathering-other l =
       let e = other-more r mono l in
       record { front = rw e at (h .front); left = rw e at (h .left); rest = h .rest }
 
-  module _ (l : ones mono ≤ r) where
+  module _ (l : admits r mono ≡ true) where
     pub gathering-within : next < dimension m r
     gathering-within = omega (arith, ap length (admitted-more r mono l), h .left)
 

@@ -8,6 +8,8 @@ use lib.Dec.{ltb, eqb}
 use lib.ListN.{length}
 use Rattle.std.specs.declared.option.Option.{Option}
 use Rattle.std.specs.declared.option.Option.the-variants.{Some, None}
+use Rattle.std.specs.declared.result.Result.{Result}
+use Rattle.std.specs.declared.result.Result.the-variants.{Ok, Err}
 use Rattle.polynomials.specs.Binomials.{dimension}
 use Rattle.polynomials.specs.Words.{Encodes}
 use Rattle.words.specs.declared.refusals.Fault.{Fault}
@@ -38,6 +40,11 @@ told Room = row 7
 told (At place fault) = toldAt place fault
 told NoWord = row 10
 
+-- the row that refuses a call, by its answer; none where it was accepted
+abbrev pub refusalOf : {X : Type 0} → Result X Refusal → Option Told
+refusalOf (Ok x) = None
+refusalOf (Err e) = Some (told e)
+
 -- rows 1 and 2, the number of variables and the order, and then the rows after them
 abbrev pub sizeRow : ℕ → ℕ → Option Told → Option Told
 sizeRow m r later = cond (ltb 8 m) (Some (row 1)) (cond (ltb m r) (Some (row 2)) later)
@@ -47,28 +54,26 @@ abbrev pub byteRow : ℕ → List ℕ → Option Told
 byteRow place [] = None
 byteRow place (b ∷ bs) = cond (ltb 1 b) (Some (row-at 8 place b)) (byteRow (place + 1) bs)
 
+-- rows 6, 7 and 8: bytes that should be so many and 0 or 1 each, and a buffer's room with what it needs
+abbrev pub bytesRow : List ℕ → ℕ → ℕ → ℕ → Option Told
+bytesRow bytes asked room needed =
+    cond (not (eqb (length bytes) asked)) (Some (row 6)) (cond (ltb room needed) (Some (row 7)) (byteRow 0 bytes))
+
 -- the first row that holds at dimension
 abbrev pub dimensionRow : ℕ → ℕ → Option Told
 dimensionRow m r = sizeRow m r None
 
 -- the first row that holds at encode, with room for so many bytes
 abbrev pub encodeRow : ℕ → ℕ → List ℕ → ℕ → Option Told
-encodeRow m r message room =
-    sizeRow m r (
-    cond (not (eqb (length message) (dimension m r))) (Some (row 6)) (
-    cond (ltb room (2 ^ m)) (Some (row 7)) (
-    byteRow 0 message)))
+encodeRow m r message room = sizeRow m r (bytesRow message (dimension m r) room (2 ^ m))
 
 -- the first row before 10 that holds at read_back, with room for so many bytes
 abbrev pub tableRow : ℕ → ℕ → List ℕ → ℕ → Option Told
-tableRow m r table room =
-    sizeRow m r (
-    cond (not (eqb (length table) (2 ^ m))) (Some (row 6)) (
-    cond (ltb room (dimension m r)) (Some (row 7)) (
-    byteRow 0 table)))
+tableRow m r table room = sizeRow m r (bytesRow table (2 ^ m) room (dimension m r))
 
--- the first row that holds at read_back: row 10 comes where no earlier row holds and no message of order r has the table as its word
-abbrev pub Unreadable : ℕ → ℕ → List ℕ → ℕ → Told → Type 0
-Unreadable m r table room t =
+-- the first row that holds at read_back, row 10 among them: no message of order r has the table as its word
+abbrev pub ReadBackRow : ℕ → ℕ → List ℕ → ℕ → Option Told → Type 0
+ReadBackRow m r table room None = (tableRow m r table room ≡ None) × ((message : List ℕ) × Encodes m r message table)
+ReadBackRow m r table room (Some t) =
     (tableRow m r table room ≡ Some t)
     ⊎ ((tableRow m r table room ≡ None) × (t ≡ row 10) × ((message : List ℕ) → Encodes m r message table → ⊥))

@@ -1,5 +1,7 @@
 // Messages and words: the dimension of a code, encoding, and reading back.
+mod checks;
 mod encoding;
+mod monomials;
 mod reading;
 mod refusals;
 mod sizes;

@@ -3,24 +3,24 @@ ghost use mathlib.Core.Path.{_≡_};
 ghost use Rattle.words.specs.Refusals.{told, number};
 
 // What is wrong with one byte.
-#[derive(Clone, Copy, PartialEq, Debug, Drop)]
+#[derive(Clone, Copy, Debug, Drop)]
 pub enum Fault {
-    // A byte above what its kind allows.
+    // A byte above 1.
     Byte(u8),
 }
 
-#[derive(Clone, Copy, PartialEq, Debug, Drop)]
+#[derive(Clone, Copy, Debug, Drop)]
 pub enum Refusal {
     // More than eight variables.
     Variables,
     // An order above the number of variables.
     Order,
-    // A message or a word of another length than asked.
+    // A message or a table of another length than asked.
     Length,
     // A buffer shorter than what the call may write.
     Room,
     // The place of the first byte at fault, and its fault.
-    At(usize, Fault),
+    At { place: usize, fault: Fault },
     // A table that is no word of the order.
     NoWord,
 }
@@ -35,7 +35,10 @@ impl Refusal {
             Refusal::Order => 2,
             Refusal::Length => 6,
             Refusal::Room => 7,
-            Refusal::At(_, Fault::Byte(_)) => 8,
+            Refusal::At {
+                fault: Fault::Byte(_),
+                ..
+            } => 8,
             Refusal::NoWord => 10,
         }
     }

@@ -12,14 +12,15 @@ use Rattle.words.proofs.encoding.encode.Needs as need
 pub returns-in-Break-check-message : need.returns-in-Break-check-message
 returns-in-Break-check-message c =
     let p = err-from-errBy (c .from-residual .result) (c .from-residual .ensures .1) in
-    let no = c .in-Break-check-message .ensures tt .refused in
+    let row = c .in-Break-check-message .ensures tt .refused in
     record {
-      refused = rw (p .1, p .2) no;
+      refused = rw (p .1, p .2) row;
       written = rw (p .1);
       bound = rw (p .1) tt;
       degree = rw (p .1) tt;
-      only = rw (p .1) tt;
-      undoes-read-back = λ table e few low long. rw (p .1) (message-encodable _ _ _ _ _ (e .valid) few low long no);
+      reads-back = rw (p .1) tt;
+      undoes-read-back = λ table b few low long. rw (p .1) (message-encodable _ _ _ _ _ (b .encodes .valid) few low long row);
+      law = words-differ;
     }
 
 pub returns : need.returns
@@ -34,6 +35,7 @@ returns c =
       written = (n, c .write-word .ensures .written);
       bound = omega (arith, n, ok .sizes .1);
       degree = subst (Degree≤ (c .args .m) (c .args .r)) (sym word) (word-low-degree (c .args .m) (c .args .r) (c .args .message .now));
-      only = words-differ _ _ _ _ (record { valid = ok .message; word = sym word });
-      undoes-read-back = λ table e few low long. word ∙ e .word;
+      reads-back = words-differ _ _ _ _ (record { valid = ok .message; word = sym word });
+      undoes-read-back = λ table b few low long. word ∙ b .encodes .word;
+      law = words-differ;
     }

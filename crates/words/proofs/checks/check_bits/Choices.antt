@@ -2,7 +2,7 @@ use mathlib.Core.Path.{_≡_}
 use lib.ListN.{take, drop}
 use Rattle.polynomials.specs.Messages.{Bits}
 use Rattle.words.specs.Refusals.{byteRow}
-use Rattle.words.proofs.encoding.check_bits.Given as given
+use Rattle.words.proofs.checks.check_bits.Given as given
 
 -- the bytes so far are bits, and the answer is that for the bytes left
 abbrev pub Inv-loop-place : given.InvT-loop-place

@@ -6,13 +6,13 @@ use Rattle.std.proofs.shelf.Elements.{all-more}
 use Rattle.polynomials.specs.Messages.{Bits}
 use Rattle.words.specs.Refusals.{byteRow}
 use Rattle.words.proofs.Bytes.{byte-here, byte-later}
-use Rattle.words.proofs.encoding.check_bits.Needs as need
+use Rattle.words.proofs.checks.check_bits.Needs as need
 
 pub returns-then-byte-gt1 : need.returns-then-byte-gt1
 returns-then-byte-gt1 c = record {
   refused =
-      sym (c .loop-place .inv .0)
-      ∙ byte-here (c .args .bytes .now) (c .loop-place .place) (c .loop-place-test .taken) (c .if-byte-gt1 .taken);
+      sym (byte-here (c .args .bytes .now) (c .loop-place .place) (c .loop-place-test .taken) (c .if-byte-gt1 .taken))
+      ∙ c .loop-place .inv .0;
   bits = tt;
 }
 
@@ -25,7 +25,7 @@ loop-place-again c = (
 pub returns : need.returns
 returns c = record {
   refused =
-      sym (c .loop-place .inv .0)
-      ∙ at-drop-all (byteRow (c .loop-place .place)) (c .args .bytes .now) (c .loop-place .place) (c .loop-place-test .left);
+      sym (at-drop-all (byteRow (c .loop-place .place)) (c .args .bytes .now) (c .loop-place .place) (c .loop-place-test .left))
+      ∙ c .loop-place .inv .0;
   bits = subst Bits (take-all (c .loop-place .place) (c .args .bytes .now) (c .loop-place-test .left)) (c .loop-place .inv .1);
 }

@@ -3,7 +3,7 @@ use Prim.Native.Nat.{_≤_}
 use lib.ListN.{length}
 use Rattle.std.specs.shelf.Lists.{kept-by}
 use Rattle.polynomials.specs.Monomials.{down, admits}
-use Rattle.words.proofs.sizes.dimension.Given as given
+use Rattle.words.proofs.sizes.count_admitted.Given as given
 
 -- k counts the admitted monomials below mono
 abbrev pub Inv-loop-mono : given.InvT-loop-mono
