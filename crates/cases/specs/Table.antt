@@ -11,6 +11,7 @@ use Rattle.cases.specs.Cases.{Case, Holds, refused, wrote, prefix-order, comes
 abbrev pub digits : String → List ℕ
 digits text = map (λ c. c - 48) (codes text)
 
+-- the cases, each with the answer that is proved of it
 abbrev pub table : List Case
 table =
     prefix-order 3 2 (digits "6543210")

@@ -95,13 +95,12 @@ fn report(rt: &LibcRuntime, answer: Result<usize, Refusal>, found: &[u8]) -> io:
     let message = spelled(rt.alloc(), found, "0", "1")?;
     match answer {
         Ok(_) => println!(rt, "Read back: {message}"),
-        Err(Refusal::NoWord) => println!(
-            rt,
-            "Read back: refused 10, since no grade of order {ORDER} has this mark. The buffer is as before: {message}"
-        ),
         Err(refusal) => {
             let row = refusal.number();
-            println!(rt, "Read back: refused {row}")
+            println!(
+                rt,
+                "Read back: refused {row}. The buffer for the message is as before: {message}"
+            )
         }
     }
 }
@@ -134,5 +133,9 @@ fn main(rt: LibcRuntime) -> io::Result<()> {
     )?;
     show(&rt, &mark)?;
     let answer = read_back(VARIABLES, ORDER, &mark, &mut found);
-    report(&rt, answer, &found)
+    report(&rt, answer, &found)?;
+    println!(
+        rt,
+        "Refusal 10 means that no grade of order {ORDER} has just this mark."
+    )
 }

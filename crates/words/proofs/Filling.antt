@@ -1,7 +1,7 @@
 -- The word written point by point: the bytes before the point are the word's, and the others are as they were.
-use mathlib.Core.Path.{_≡_, refl, sym, ap, ap₂, _∙_}
+use mathlib.Core.Path.{_≡_, sym, ap, ap₂, _∙_}
 use mathlib.Core.List.{List, _∷_, [], _++_, map}
-use Prim.Native.Nat.{ℕ, _+_, _^_, _%_, _≤_, _<_}
+use Prim.Native.Nat.{ℕ, _+_, _^_, _%_, _<_}
 use native.Mathlib.Omega.{arith}
 use lib.ListN.{length, set, take, drop}
 use Rattle.std.specs.Iters.{counting}

@@ -12,10 +12,10 @@ use Rattle.std.specs.declared.option.Option.the-variants.{Some, None}
 use Rattle.std.proofs.shelf.Tests.{ltb-false, eqb-true, eq-eqb, le-ltb, cond-false}
 use Rattle.polynomials.specs.Binomials.{dimension}
 use Rattle.polynomials.specs.Messages.{Bits, Message}
-use Rattle.polynomials.specs.Words.{Table, Encodes}
+use Rattle.polynomials.specs.Words.{Encodes}
 use Rattle.polynomials.specs.Coefficients.{coefficients, Degree≤}
 use Rattle.polynomials.proofs.Reading.{encodes-table, encodes-coefficients}
-use Rattle.words.specs.Refusals.{Told, row, row-at, number, sizeRow, byteRow, bytesRow, encodeRow, tableRow, ReadBackRow}
+use Rattle.words.specs.Refusals.{Told, row, row-at, number, sizeRow, byteRow, bytesRow, encodeRow, ReadBackRow}
 
 -- what holds of this row and of each row after it holds of the first row that holds
 first-row : (P : Told → Type 0) (b : Bool) (x : Told) (later : Option Told) → P x → ((t : Told) → later ≡ Some t → P t)
