@@ -4,7 +4,7 @@ use Prim.Native.Nat.{ℕ, _-_}
 use Prim.Native.String.{String}
 use lib.Chars.{codes}
 use Rattle.std.specs.shelf.Lists.{All}
-use Rattle.words.specs.Refusals.{row, row-at}
+use Rattle.words.specs.Refusals.{byte, row, row-at}
 use Rattle.cases.specs.Cases.{Case, Holds, refused, wrote, prefix-order, comes-first, encode, read-back}
 
 -- the digits of a text as numbers
@@ -21,10 +21,10 @@ table =
     ∷ encode 3 4 (digits "1") 8 (refused (row 2))
     ∷ encode 3 1 (digits "010") 8 (refused (row 6))
     ∷ encode 3 1 (digits "0123") 7 (refused (row 7))
-    ∷ encode 3 1 (digits "0123") 8 (refused (row-at 8 2 2))
+    ∷ encode 3 1 (digits "0123") 8 (refused (row-at 8 2 (byte 2)))
     ∷ read-back 4 3 (digits "1100110100111101") 15 (wrote (digits "001000110000101"))
     ∷ read-back 2 1 (digits "0009") 2 (refused (row 7))
-    ∷ read-back 2 1 (digits "0009") 3 (refused (row-at 8 3 9))
+    ∷ read-back 2 1 (digits "0009") 3 (refused (row-at 8 3 (byte 9)))
     ∷ read-back 2 1 (digits "0001") 3 (refused (row 10))
     ∷ []
 

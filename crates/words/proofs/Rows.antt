@@ -15,7 +15,7 @@ use Rattle.polynomials.specs.Messages.{Bits, Message}
 use Rattle.polynomials.specs.Words.{Encodes}
 use Rattle.polynomials.specs.Coefficients.{coefficients, Degree≤}
 use Rattle.polynomials.proofs.Reading.{encodes-table, encodes-coefficients}
-use Rattle.words.specs.Refusals.{Told, row, row-at, number, sizeRow, byteRow, bytesRow, encodeRow, ReadBackRow}
+use Rattle.words.specs.Refusals.{Told, byte, row, row-at, number, sizeRow, byteRow, bytesRow, encodeRow, ReadBackRow}
 
 -- what holds of this row and of each row after it holds of the first row that holds
 first-row : (P : Told → Type 0) (b : Bool) (x : Told) (later : Option Told) → P x → ((t : Told) → later ≡ Some t → P t)
@@ -31,7 +31,7 @@ no-row false x later e = (refl, e)
 byte-row-8 : (place : ℕ) (bs : List ℕ) (t : Told) → byteRow place bs ≡ Some t → number t < 10
 byte-row-8 place [] t e = let z : _≡_ {A = ℕ} 0 1 = cc in absurd (omega arith)
 byte-row-8 place (b ∷ bs) t e =
-    first-row (λ t. number t < 10) (ltb 1 b) (row-at 8 place b) (byteRow (place + 1) bs) (omega arith) (byte-row-8 (place + 1) bs) t e
+    first-row (λ t. number t < 10) (ltb 1 b) (row-at 8 place (byte b)) (byteRow (place + 1) bs) (omega arith) (byte-row-8 (place + 1) bs) t e
 
 -- a message or a table as asked: so many bits
 pub record Asked (bytes : List ℕ) (asked : ℕ) : Type 0 where
@@ -41,7 +41,7 @@ pub record Asked (bytes : List ℕ) (asked : ℕ) : Type 0 where
 no-byte-row : (place : ℕ) (bs : List ℕ) → byteRow place bs ≡ None → Bits bs
 no-byte-row place [] e = tt
 no-byte-row place (b ∷ bs) e =
-    let n = no-row (ltb 1 b) (row-at 8 place b) (byteRow (place + 1) bs) e in
+    let n = no-row (ltb 1 b) (row-at 8 place (byte b)) (byteRow (place + 1) bs) e in
     (omega (arith, ltb-false 1 b (n .0)), no-byte-row (place + 1) bs (n .1))
 
 bits-no-row : (place : ℕ) (bs : List ℕ) → Bits bs → byteRow place bs ≡ None

@@ -6,6 +6,7 @@ use mathlib.Core.Logic.{_⊎_}
 use Prim.Native.Nat.{ℕ, _+_, _^_}
 use lib.Dec.{ltb, eqb}
 use lib.ListN.{length}
+use lib.Ieee.{Float}
 use Rattle.std.specs.declared.option.Option.{Option}
 use Rattle.std.specs.declared.option.Option.the-variants.{Some, None}
 use Rattle.std.specs.declared.result.Result.{Result}
@@ -13,23 +14,42 @@ use Rattle.std.specs.declared.result.Result.the-variants.{Ok, Err}
 use Rattle.polynomials.specs.Binomials.{dimension}
 use Rattle.polynomials.specs.Words.{Encodes}
 use Rattle.words.specs.declared.refusals.Fault.{Fault}
-use Rattle.words.specs.declared.refusals.Fault.the-variants.{Byte}
+use Rattle.words.specs.declared.refusals.Fault.the-variants.{Byte, NotANumber, Level, Levels}
 use Rattle.words.specs.declared.refusals.Refusal.{Refusal}
 use Rattle.words.specs.declared.refusals.Refusal.the-variants.{Variables, Order, Length, Room, At, NoWord}
 
--- what a refusal tells: the number of its row, alone or with a place and the byte that was found there
+-- what was found at a place: a byte, or levels, none of them where one is not a number
+pub data Found : Type 0 where
+  byte : ℕ → Found
+  levels : List Float → Found
+
+-- the number of a fault's row
+abbrev pub faultRow : Fault → ℕ
+faultRow (Byte b) = 8
+faultRow NotANumber = 9
+faultRow (Level x) = 9
+faultRow (Levels darkest lightest) = 9
+
+-- the values that a fault carries
+abbrev pub found : Fault → Found
+found (Byte b) = byte b
+found NotANumber = levels []
+found (Level x) = levels (x ∷ [])
+found (Levels darkest lightest) = levels (darkest ∷ lightest ∷ [])
+
+-- what a refusal tells: the number of its row, alone or with a place and what was found there
 pub data Told : Type 0 where
   row : ℕ → Told
-  row-at : ℕ → ℕ → ℕ → Told
+  row-at : ℕ → ℕ → Found → Told
 
 -- the number of the row
 abbrev pub number : Told → ℕ
 number (row n) = n
-number (row-at n place byte) = n
+number (row-at n place values) = n
 
 -- what a fault at a place tells
 abbrev pub toldAt : ℕ → Fault → Told
-toldAt place (Byte b) = row-at 8 place b
+toldAt place fault = row-at (faultRow fault) place (found fault)
 
 -- what each refusal tells
 abbrev pub told : Refusal → Told
@@ -52,7 +72,7 @@ sizeRow m r later = cond (ltb 8 m) (Some (row 1)) (cond (ltb m r) (Some (row 2))
 -- row 8: the first byte above 1, where the first of the bytes stands at this place
 abbrev pub byteRow : ℕ → List ℕ → Option Told
 byteRow place [] = None
-byteRow place (b ∷ bs) = cond (ltb 1 b) (Some (row-at 8 place b)) (byteRow (place + 1) bs)
+byteRow place (b ∷ bs) = cond (ltb 1 b) (Some (row-at 8 place (byte b))) (byteRow (place + 1) bs)
 
 -- rows 6, 7 and 8: bytes that should be so many and 0 or 1 each, and a buffer's room with what it needs
 abbrev pub bytesRow : List ℕ → ℕ → ℕ → ℕ → Option Told

@@ -6,6 +6,7 @@ mod reading;
 mod refusals;
 mod sizes;
 
+pub use checks::check_bytes;
 pub use encoding::encode;
 pub use reading::read_back;
 pub use refusals::Fault;

@@ -1,12 +1,32 @@
 // Why a call is refused. docs/REFUSALS.md has the rows and their numbers.
 ghost use mathlib.Core.Path.{_≡_};
-ghost use Rattle.words.specs.Refusals.{told, number};
+ghost use Rattle.words.specs.Refusals.{faultRow, told, number};
 
-// What is wrong with one byte.
+// What is wrong with one byte of a message or a table, or with one cell of any kind.
 #[derive(Clone, Copy, Debug, Drop)]
 pub enum Fault {
-    // A byte above 1.
+    // A byte that is not allowed.
     Byte(u8),
+    // A level that is not a number.
+    NotANumber,
+    // A level that is not allowed.
+    Level(f32),
+    // Two levels in the wrong order, the darkest and the lightest.
+    Levels(f32, f32),
+}
+
+impl Fault {
+    // The number of the row.
+    pub fn number(&self) -> u8
+        ensures { λ n. ⌜ n ≡ faultRow (now (self .entry)) ⌝ }
+    {
+        match self {
+            Fault::Byte(_) => 8,
+            Fault::NotANumber => 9,
+            Fault::Level(_) => 9,
+            Fault::Levels(_, _) => 9,
+        }
+    }
 }
 
 #[derive(Clone, Copy, Debug, Drop)]
@@ -15,11 +35,11 @@ pub enum Refusal {
     Variables,
     // An order above the number of variables.
     Order,
-    // A message or a table of another length than asked.
+    // A message, a table or a list of cells of another length than asked.
     Length,
     // A buffer shorter than what the call may write.
     Room,
-    // The place of the first byte at fault, and its fault.
+    // The place of the first byte or cell at fault, and its fault.
     At { place: usize, fault: Fault },
     // A table that is no word of the order.
     NoWord,
@@ -35,10 +55,7 @@ impl Refusal {
             Refusal::Order => 2,
             Refusal::Length => 6,
             Refusal::Room => 7,
-            Refusal::At {
-                fault: Fault::Byte(_),
-                ..
-            } => 8,
+            Refusal::At { fault, .. } => fault.number(),
             Refusal::NoWord => 10,
         }
     }
