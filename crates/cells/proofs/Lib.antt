@@ -1,0 +1,5 @@
+pub mod Ranges
+pub mod Scanning
+pub mod Mapping
+pub mod Weights
+pub mod Distances

@@ -1,0 +1,3 @@
+pub mod Readings
+pub mod Kinds
+pub mod Costs

@@ -1,0 +1,5 @@
+pub mod Putting
+pub mod Packing
+pub mod Accepting
+pub mod ReadingBack
+pub mod WritingBack
