@@ -62,17 +62,24 @@ share place long other wide = ltb (max place other) (min (place + long) (other +
 abbrev pub placed : ℕ → ℕ → ℕ → ℕ → ℕ → Bool
 placed size place long other wide = lies size place long && lies size other wide && not (share place long other wide)
 
--- the first row that refuses the file
-abbrev pub patchRow : List ℕ → Option ℕ
-patchRow file =
+-- the rows of the file's length, its sizes and its places, and then the rows after them
+abbrev pub headerRow : List ℕ → Option ℕ → Option ℕ
+headerRow file later =
     cond (not (leb 12 (length file) && leb (length file) 4096)) (Some 13)
     (cond (ltb 8 (variables file)) (Some 1)
     (cond (ltb (variables file) (order file)) (Some 2)
     (cond (ltb 32512 (radius file)) (Some 3)
     (cond (not (eqb (count file) (2 ^ variables file))) (Some 6)
     (cond (not (placed (length file) (cellsAt file) (bytesFor (2 ^ variables file)) (nameAt file) (nameLength file))) (Some 14)
-    (cond (not (eqb (unused (2 ^ variables file) (cellBytes file)) 0)) (Some 15)
-    None))))))
+    later)))))
+
+-- row 15: an unused bit of the last byte of the cells of m variables is 1
+abbrev pub unusedRow : ℕ → List ℕ → Option ℕ
+unusedRow m bytes = cond (not (eqb (unused (2 ^ m) bytes) 0)) (Some 15) None
+
+-- the first row that refuses the file
+abbrev pub patchRow : List ℕ → Option ℕ
+patchRow file = headerRow file (unusedRow (variables file) (cellBytes file))
 
 -- the file is accepted, and says m, r, T, the cells and the name
 pub record Says (file : List ℕ) (m r T : ℕ) (cells roll : List ℕ) : Type 0 where

@@ -6,3 +6,4 @@ pub mod Counting
 pub mod Lookup
 pub mod Spreading
 pub mod Reading
+pub mod Filling
