@@ -6,6 +6,7 @@ use Prim.Native.Nat.{ℕ, _^_, _<_}
 use native.Mathlib.Omega.{arith}
 use lib.Count.{ones, onesIn}
 use lib.Dec.{lit<}
+use lib.Ieee.{isNan}
 use Rattle.std.specs.declared.option.Option.the-variants.{Some, None}
 use Rattle.polynomials.specs.Monomials.{value}
 use Rattle.polynomials.specs.Binomials.{dimension}
@@ -36,7 +37,7 @@ _and_ : {A B : Type 0} → A → B → A × B
 _and_ a b = (a, b)
 
 pub table-holds : Table-holds
-unfolding value ones onesIn
+unfolding value ones onesIn isNan
 table-holds =
     refl
     and refl
@@ -50,4 +51,25 @@ table-holds =
     and inl refl
     and inl refl
     and no-word 2 1 3 _ 3 refl (lit< tt) (lit< tt) refl
+    and refl
+    and refl
+    and refl
+    and refl
+    and refl
+    and refl
+    and refl
+    and refl
+    and refl
+    and refl
+    and refl
+    and refl
+    and refl
+    and refl
+    and refl
+    and refl
+    and refl
+    and refl
+    and refl
+    and record { accepted = refl; m-is = refl; r-is = refl; T-is = refl; cells-are = refl; roll-is = refl }
+    and refl
     and tt

@@ -1,11 +1,17 @@
 -- The table of worked cases.
 use mathlib.Core.List.{List, [], _∷_, map}
+use mathlib.Core.Bool.{true, false}
 use Prim.Native.Nat.{ℕ, _-_}
 use Prim.Native.String.{String}
 use lib.Chars.{codes}
+use lib.Ieee.{nan, inf}
+use lib.IntN.{pos, negsuc}
 use Rattle.std.specs.shelf.Lists.{All}
 use Rattle.words.specs.Refusals.{byte, row, row-at}
-use Rattle.cases.specs.Cases.{Case, Holds, refused, wrote, prefix-order, comes-first, encode, read-back}
+use Rattle.words.specs.declared.refusals.Fault.the-variants.{Byte, NotANumber, Level, Levels}
+use Rattle.std.specs.declared.result.Result.the-variants.{Ok, Err}
+use Rattle.cases.specs.Samples.{nought, negative-nought, quarter, half, one, below-0, above-0, below-1, above-1, below-17, above-17, file}
+use Rattle.cases.specs.Cases.{Case, Holds, refused, wrote, prefix-order, comes-first, encode, read-back, bit-reads, pixel-reads, word-costs, file-says, file-refused}
 
 -- the digits of a text as numbers
 abbrev pub digits : String → List ℕ
@@ -26,6 +32,27 @@ table =
     ∷ read-back 2 1 (digits "0009") 2 (refused (row 7))
     ∷ read-back 2 1 (digits "0009") 3 (refused (row-at 8 3 (byte 9)))
     ∷ read-back 2 1 (digits "0001") 3 (refused (row 10))
+    ∷ bit-reads 0 (Ok (pos 1))
+    ∷ bit-reads 1 (Ok (negsuc 0))
+    ∷ bit-reads 2 (Err (Byte 2))
+    ∷ pixel-reads nought one (Ok (pos 0))
+    ∷ pixel-reads negative-nought one (Ok (pos 0))
+    ∷ pixel-reads quarter half (Ok (negsuc 15))
+    ∷ pixel-reads one one (Ok (pos 64))
+    ∷ pixel-reads above-0 below-1 (Ok (negsuc 0))
+    ∷ pixel-reads below-17 one (Ok (pos 16))
+    ∷ pixel-reads above-17 one (Ok (pos 17))
+    ∷ pixel-reads one nan (Err NotANumber)
+    ∷ pixel-reads nan (inf true) (Err NotANumber)
+    ∷ pixel-reads (inf true) (inf false) (Err (Level (inf true)))
+    ∷ pixel-reads above-1 below-0 (Err (Level above-1))
+    ∷ pixel-reads one below-0 (Err (Level below-0))
+    ∷ pixel-reads half quarter (Err (Levels half quarter))
+    ∷ word-costs 2 (pos 1 ∷ pos 1 ∷ pos 1 ∷ negsuc 0 ∷ []) (digits "0000") 1
+    ∷ word-costs 1 (pos 64 ∷ negsuc 15 ∷ []) (digits "00") 16
+    ∷ word-costs 1 (pos 64 ∷ negsuc 15 ∷ []) (digits "11") 64
+    ∷ file-says file 2 1 1 (digits "0001") (codes "R1")
+    ∷ file-refused (3 ∷ []) 13
     ∷ []
 
 -- every case of the table holds

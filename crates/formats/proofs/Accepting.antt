@@ -9,6 +9,7 @@ use lib.ListN.{length}
 use Rattle.std.specs.declared.option.Option.{Option}
 use Rattle.std.specs.declared.option.Option.the-variants.{Some, None}
 use Rattle.std.proofs.shelf.Tests.{ltb-false, leb-true, eqb-true, le-ltb, le-leb, eq-eqb, and-parts, and-from, not-true, not-false, cond-false}
+use Rattle.polynomials.proofs.Choosing.{no-row}
 use Rattle.formats.specs.Packing.{bytesFor, unused}
 use Rattle.formats.specs.Patch.{variables, order, radius, count, cellsAt, nameLength, nameAt, cellBytes, lies, share, placed, patchRow}
 
@@ -55,11 +56,6 @@ lawful-accepted file v =
     ∙ cond-false _ _ _ (ap not (eq-eqb (count file) (2 ^ variables file) (v .counted)))
     ∙ cond-false _ _ _ (ap not (v .sections))
     ∙ cond-false _ _ _ (ap not (eq-eqb (unused (2 ^ variables file) (cellBytes file)) 0 (v .clean)))
-
--- where no row holds, this one does not, and none after it does
-no-row : (b : Bool) (row : ℕ) (later : Option ℕ) → cond b (Some row) later ≡ None → (b ≡ false) × (later ≡ None)
-no-row true row later e = let z : _≡_ {A = ℕ} 0 1 = cc in absurd (omega arith)
-no-row false row later e = (refl, e)
 
 pub accepted-lawful : (file : List ℕ) → patchRow file ≡ None → Lawful file
 accepted-lawful file e =

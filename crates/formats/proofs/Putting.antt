@@ -1,54 +1,62 @@
--- Bytes put over others: the length stays, the part at their place is theirs, other parts stay, and a part put over itself changes nothing.
-use mathlib.Core.Path.{_≡_, refl, sym, ap, _∙_}
-use mathlib.Core.List.{List, _++_}
-use mathlib.Core.Logic.{_⊎_, inl, inr}
-use Prim.Native.Nat.{ℕ, _+_, _-_, _≤_, _<_, min}
+-- Bytes put over others: the length stays, one piece after another is one piece, and one byte is a `set`.
+use mathlib.Core.Path.{_≡_, sym, ap, ap₂, _∙_}
+use mathlib.Core.List.{List, [], _∷_, _++_}
+use Prim.Native.Nat.{ℕ, _+_, _≤_, _<_}
+use native.Mathlib.Nat.{zero-add}
+use native.Mathlib.Numerals.{add-one}
 use native.Mathlib.Omega.{arith}
-use lib.ListN.{length, getD, take, drop}
-use Rattle.std.proofs.shelf.Lists.{length-append, length-take, length-drop, length-take-le, getD-append-left, getD-append-right, getD-take, getD-drop, take-at, drop-at, drop-drop, take-append-drop, ext-getD}
-use Rattle.formats.specs.Putting.{over, part}
+use lib.ListN.{length, getD, set, take, drop}
+use Rattle.std.proofs.shelf.Lists.{append-assoc, length-append, length-take-le, length-drop, take-at, drop-at, drop-drop, set-split, take-append-drop, take-more, take-all}
+use Rattle.formats.specs.Putting.{over}
 
-pub length-part : (place long : ℕ) (bytes : List ℕ) → place + long ≤ length bytes → length (part place long bytes) ≡ long
-length-part place long bytes fits = simp (length-take, length-drop) (omega arith)
+pub length-over : (place : ℕ) (new bytes : List ℕ) → place + length new ≤ length bytes → length (over place new bytes) ≡ length bytes
+length-over place new bytes l =
+    let front : length (take place bytes) ≡ place = length-take-le place bytes (omega arith) in
+    simp (length-append, length-drop) (omega arith)
 
-pub getD-part : (place long : ℕ) (bytes : List ℕ) (i : ℕ) → i < long → getD (part place long bytes) i 0 ≡ getD bytes (place + i) 0
-getD-part place long bytes i l = getD-take long (drop place bytes) i 0 l ∙ getD-drop place bytes i 0
+-- at the beginning of the bytes
+pub over-start : (new bytes : List ℕ) → over 0 new bytes ≡ new ++ drop (length new) bytes
+over-start new bytes = ap (λ n. new ++ drop n bytes) (zero-add (length new))
 
--- a part put over itself
-pub over-part : (place long : ℕ) (bytes : List ℕ) → place + long ≤ length bytes → over place (part place long bytes) bytes ≡ bytes
-over-part place long bytes fits =
-    ap (λ n. take place bytes ++ (part place long bytes ++ drop (place + n) bytes)) (length-part place long bytes fits)
-    ∙ ap (λ rest. take place bytes ++ (part place long bytes ++ rest)) (sym (drop-drop long place bytes))
-    ∙ ap (λ rest. take place bytes ++ rest) (take-append-drop long (drop place bytes))
-    ∙ take-append-drop place bytes
+-- nothing
+pub over-none : (place : ℕ) (bytes : List ℕ) → over place [] bytes ≡ bytes
+over-none place bytes = ap (λ n. take place bytes ++ drop n bytes) (omega arith) ∙ take-append-drop place bytes
 
-module _ (place : ℕ) (new bytes : List ℕ) (fits : place + length new ≤ length bytes) where
-  pub length-over : length (over place new bytes) ≡ length bytes
-  length-over = simp (length-append, length-take, length-drop) (omega arith)
+-- one byte
+pub over-byte : (place b : ℕ) (bytes : List ℕ) → place < length bytes → over place (b ∷ []) bytes ≡ set bytes place b
+over-byte place b bytes l = ap (λ n. take place bytes ++ (b ∷ drop n bytes)) (add-one place) ∙ sym (set-split bytes place b l)
 
-  pub part-over-same : part place (length new) (over place new bytes) ≡ new
-  part-over-same =
-      ap (take (length new)) (drop-at (take place bytes) (new ++ drop (place + length new) bytes) place (length-take-le place bytes (omega arith)))
-      ∙ take-at new (drop (place + length new) bytes) (length new) refl
+-- a piece after a piece
+pub over-more : (place next : ℕ) (new more bytes : List ℕ) → place + length new ≤ length bytes → next ≡ place + length new
+    → over next more (over place new bytes) ≡ over place (new ++ more) bytes
+over-more place next new more bytes l e =
+    let long : length (take place bytes ++ new) ≡ next = simp length-append (omega (arith, length-take-le place bytes (omega arith))) in
+    let split : over place new bytes ≡ (take place bytes ++ new) ++ drop (place + length new) bytes
+    = sym (append-assoc (take place bytes) new (drop (place + length new) bytes)) in
+    let front : take next (over place new bytes) ≡ take place bytes ++ new = ap (take next) split ∙ take-at (take place bytes ++ new) _ next long in
+    let rest : drop (next + length more) (over place new bytes) ≡ drop (place + length (new ++ more)) bytes
+    = sym (drop-drop (length more) next (over place new bytes))
+    ∙ ap (drop (length more)) (ap (drop next) split ∙ drop-at (take place bytes ++ new) _ next long)
+    ∙ drop-drop (length more) (place + length new) bytes
+    ∙ ap (λ n. drop n bytes) (omega (arith, length-append new more)) in
+    ap₂ {C = List ℕ} (λ f t. f ++ (more ++ t)) front rest
+    ∙ append-assoc (take place bytes) new (more ++ drop (place + length (new ++ more)) bytes)
+    ∙ ap (λ t. take place bytes ++ t) (sym (append-assoc new more (drop (place + length (new ++ more)) bytes)))
 
-  getD-over-other : (i : ℕ) → (i < place) ⊎ (place + length new ≤ i) → getD (over place new bytes) i 0 ≡ getD bytes i 0
-  getD-over-other i (inl l) =
-      getD-append-left (take place bytes) _ 0 i (omega (arith, length-take place bytes)) ∙ getD-take place bytes i 0 l
-  getD-over-other i (inr l) =
-      getD-append-right (take place bytes) _ place i 0 (length-take-le place bytes (omega arith)) (omega arith)
-      ∙ getD-append-right new _ (length new) (i - place) 0 refl (omega arith)
-      ∙ getD-drop (place + length new) bytes (i - place - length new) 0
-      ∙ ap (λ k. getD bytes k 0) (omega arith)
+-- a byte after a piece
+pub over-push : (place next b : ℕ) (new bytes : List ℕ) → place + length new < length bytes → next ≡ place + length new
+    → set (over place new bytes) next b ≡ over place (new ++ b ∷ []) bytes
+over-push place next b new bytes l e =
+    sym (over-byte next b (over place new bytes) (omega (arith, length-over place new bytes (omega arith))))
+    ∙ over-more place next new (b ∷ []) bytes (omega arith) e
 
-  -- a part none of whose bytes was put over
-  pub part-over-other : (from long : ℕ) → ((i : ℕ) → i < long → (from + i < place) ⊎ (place + length new ≤ from + i))
-      → part from long (over place new bytes) ≡ part from long bytes
-  part-over-other from long apart =
-      let same : length (part from long (over place new bytes)) ≡ length (part from long bytes)
-      = simp (length-take, length-drop) (ap (λ n. min long (n - from)) length-over) in
-      ext-getD 0 (part from long (over place new bytes)) (part from long bytes) same
-      (λ i l.
-      let short : i < long = omega (arith, length-take long (drop from (over place new bytes))) in
-      getD-part from long (over place new bytes) i short
-      ∙ getD-over-other (from + i) (apart i short)
-      ∙ sym (getD-part from long bytes i short))
+-- one byte more of a piece, and then all of it
+pub over-take-more : (place i b : ℕ) (new bytes : List ℕ) → i < length new → place + length new ≤ length bytes → b ≡ getD new i 0
+    → set (over place (take i new) bytes) (place + i) b ≡ over place (take (i + 1) new) bytes
+over-take-more place i b new bytes l room e =
+    let long : length (take i new) ≡ i = length-take-le i new (omega arith) in
+    over-push place (place + i) b (take i new) bytes (omega arith) (omega arith)
+    ∙ ap (λ t. over place t bytes) (ap (λ x. take i new ++ x ∷ []) e ∙ sym (take-more new i 0 l))
+
+pub over-take-all : (place i : ℕ) (new bytes : List ℕ) → length new ≤ i → over place (take i new) bytes ≡ over place new bytes
+over-take-all place i new bytes l = ap (λ t. over place t bytes) (take-all i new l)

@@ -13,7 +13,8 @@ use Rattle.formats.specs.Putting.{over, part}
 use Rattle.formats.specs.Packing.{bytesFor, packed, unpacked, unused}
 use Rattle.formats.specs.Patch.{placed, cellsAt, nameLength, nameAt, cellBytes, name, Says}
 use Rattle.formats.specs.Writing.{header, Written-reads-back}
-use Rattle.formats.proofs.Putting.{length-over, part-over-same, part-over-other}
+use Rattle.formats.proofs.Putting.{length-over}
+use Rattle.formats.proofs.Parts.{part-over-same, part-over-other}
 use Rattle.formats.proofs.Packing.{length-packed, unpacked-packed, unused-packed}
 use Rattle.formats.proofs.Accepting.{Apart, placed-apart, lawful-accepted}
 

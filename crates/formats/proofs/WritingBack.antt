@@ -13,7 +13,7 @@ use Rattle.formats.specs.Putting.{over, part}
 use Rattle.formats.specs.Packing.{bytesFor, packed, unpacked}
 use Rattle.formats.specs.Patch.{pairAt, variables, order, radius, cellsAt, nameLength, nameAt, cellBytes, name, patchRow}
 use Rattle.formats.specs.Writing.{two, header, written, Read-writes-back}
-use Rattle.formats.proofs.Putting.{length-part, getD-part, over-part}
+use Rattle.formats.proofs.Parts.{length-part, getD-part, over-part}
 use Rattle.formats.proofs.Packing.{packed-unpacked}
 use Rattle.formats.proofs.Accepting.{Apart, placed-apart, Lawful, accepted-lawful}
 

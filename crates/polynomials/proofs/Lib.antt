@@ -7,3 +7,4 @@ pub mod Lookup
 pub mod Spreading
 pub mod Reading
 pub mod Filling
+pub mod Choosing

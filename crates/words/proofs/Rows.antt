@@ -14,6 +14,7 @@ use Rattle.polynomials.specs.Binomials.{dimension}
 use Rattle.polynomials.specs.Messages.{Bits, Message}
 use Rattle.polynomials.specs.Words.{Encodes}
 use Rattle.polynomials.specs.Coefficients.{coefficients, Degree≤}
+use Rattle.polynomials.proofs.Choosing.{no-row}
 use Rattle.polynomials.proofs.Reading.{encodes-table, encodes-coefficients}
 use Rattle.words.specs.Refusals.{Told, byte, row, row-at, number, sizeRow, byteRow, bytesRow, encodeRow, ReadBackRow}
 
@@ -22,11 +23,6 @@ first-row : (P : Told → Type 0) (b : Bool) (x : Told) (later : Option Told) �
     → (t : Told) → cond b (Some x) later ≡ Some t → P t
 first-row P true x later p q t e = let same : x ≡ t = cc in subst P same p
 first-row P false x later p q t e = q t e
-
--- where no row holds, this one does not, and none after it does
-no-row : (b : Bool) (x : Told) (later : Option Told) → cond b (Some x) later ≡ None → (b ≡ false) × (later ≡ None)
-no-row true x later e = let z : _≡_ {A = ℕ} 0 1 = cc in absurd (omega arith)
-no-row false x later e = (refl, e)
 
 byte-row-8 : (place : ℕ) (bs : List ℕ) (t : Told) → byteRow place bs ≡ Some t → number t < 10
 byte-row-8 place [] t e = let z : _≡_ {A = ℕ} 0 1 = cc in absurd (omega arith)

@@ -7,7 +7,7 @@ use Rattle.std.specs.declared.option.Option.{Option}
 use Rattle.std.specs.declared.option.Option.the-variants.{None}
 use Rattle.std.proofs.shelf.Results.{err-from-errBy}
 use Rattle.formats.specs.Patch.{variables, cellBytes, unusedRow, patchRow}
-use Rattle.formats.proofs.Putting.{length-part}
+use Rattle.formats.proofs.Parts.{length-part}
 use Rattle.formats.proofs.ReadingBack.{written-reads-back}
 use Rattle.formats.proofs.WritingBack.{read-writes-back}
 use Rattle.patch.proofs.Chains.{first, header-first, cells-part, name-part}

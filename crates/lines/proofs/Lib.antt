@@ -1,0 +1,4 @@
+pub mod Fronts
+pub mod Joining
+pub mod Stopping
+pub mod Needed
