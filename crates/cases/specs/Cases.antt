@@ -11,7 +11,8 @@ use Rattle.polynomials.specs.Messages.{earlier}
 use Rattle.polynomials.specs.Words.{wordOf, ReadsBack}
 use Rattle.words.specs.Refusals.{Told, encodeRow, ReadBackRow}
 use Rattle.cells.specs.Readings.{Reading}
-use Rattle.cells.specs.Kinds.{bitReading, pixelReading}
+use Rattle.cells.specs.Bits.{bitReading}
+use Rattle.cells.specs.Pixels.{pixelReading}
 use Rattle.cells.specs.Costs.{cost}
 use Rattle.formats.specs.Patch.{patchRow, Says}
 

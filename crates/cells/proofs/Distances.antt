@@ -17,7 +17,7 @@ use Rattle.words.specs.declared.refusals.Fault.the-variants.{Byte}
 use Rattle.polynomials.specs.Sums.{total}
 use Rattle.polynomials.proofs.Sums.{total-ext}
 use Rattle.cells.specs.Readings.{Reading, Weighed}
-use Rattle.cells.specs.Kinds.{bitReading}
+use Rattle.cells.specs.Bits.{bitReading}
 use Rattle.cells.specs.Costs.{pays, Cost-is-distance, Widest-radius}
 
 weighed-at : (cells : List ℕ) (weights : List ℤ) → Weighed (map bitReading cells) weights → (point : ℕ) → point < length cells

@@ -11,7 +11,7 @@ use Rattle.levels.specs.Levels.{inUnit, whole64, above}
 use Rattle.levels.proofs.Sixtyfourths.{whole64-le}
 use Rattle.words.specs.declared.refusals.Fault.the-variants.{Level, Levels}
 use Rattle.cells.specs.Readings.{Reading, InRange}
-use Rattle.cells.specs.Kinds.{pixelReading}
+use Rattle.cells.specs.Pixels.{pixelReading}
 
 by-test : (b : Bool) (x y : Reading) → InRange x → InRange y → InRange (cond b x y)
 by-test true x y p q = p

@@ -13,7 +13,7 @@ use Rattle.polynomials.specs.Sums.{total}
 use Rattle.polynomials.specs.Words.{Table}
 use Rattle.words.specs.Refusals.{Told, row, byteRow}
 use Rattle.cells.specs.Readings.{Weighed}
-use Rattle.cells.specs.Kinds.{bitReading}
+use Rattle.cells.specs.Bits.{bitReading}
 
 -- what a word with this bit at a cell pays there: the size of the weight that it contradicts, a positive one by 1 and a negative one by 0
 abbrev pub pays : ℤ → ℕ → ℕ

@@ -1,3 +1,4 @@
 pub mod Readings
-pub mod Kinds
+pub mod Bits
+pub mod Pixels
 pub mod Costs

@@ -1,10 +1,10 @@
 // Bit cells.
-ghost use Rattle.cells.specs.Kinds.{bitReading};
+ghost use Rattle.cells.specs.Bits.{bitReading};
 use crate::cell::Cell;
 use words::Fault;
 
 // A cell that is a bit: the byte 0 or 1.
-#[derive(Clone, Copy, Debug, Drop)]
+#[derive(Clone, Copy, Drop)]
 pub struct Bit {
     pub byte: u8,
 }

@@ -3,12 +3,12 @@ ghost use mathlib.Core.Path.{_≡_};
 ghost use mathlib.Core.Bool.{true};
 ghost use Prim.Native.Nat.{_≤_};
 ghost use Rattle.levels.specs.Levels.{inUnit, whole64, above};
-ghost use Rattle.cells.specs.Kinds.{pixelReading};
+ghost use Rattle.cells.specs.Pixels.{pixelReading};
 use crate::cell::Cell;
 use words::Fault;
 
 // A cell by the darkest and the lightest level of light in it, each from 0 to 1.
-#[derive(Clone, Copy, Debug, Drop)]
+#[derive(Clone, Copy, Drop)]
 pub struct Pixel {
     pub darkest: f32,
     pub lightest: f32,

@@ -1,9 +1,12 @@
 -- Bits packed eight to a byte, the first in the highest bit.
+use mathlib.Core.Path.{_≡_}
 use mathlib.Core.List.{List, map}
-use Prim.Native.Nat.{ℕ, _+_, _-_, _*_, _/_, _%_, _^_}
+use Prim.Native.Nat.{ℕ, _+_, _-_, _*_, _/_, _%_, _^_, _<_}
 use lib.ListN.{length, getD}
 use Rattle.std.specs.Iters.{counting}
+use Rattle.std.specs.shelf.Lists.{All}
 use Rattle.polynomials.specs.Sums.{total}
+use Rattle.polynomials.specs.Messages.{Bits}
 
 -- how many bytes so many bits need
 abbrev pub bytesFor : ℕ → ℕ
@@ -28,3 +31,11 @@ packedByte bits j = total 8 (λ i. getD bits (8 * j + i) 0 * 2 ^ (7 - i))
 -- the bytes that hold the bits
 abbrev pub packed : List ℕ → List ℕ
 packed bits = map (packedByte bits) (counting 0 (bytesFor (length bits)))
+
+-- bits that are packed are unpacked again
+abbrev pub Packed-unpacks : Type 0
+Packed-unpacks = (bits : List ℕ) → Bits bits → unpacked (length bits) (packed bits) ≡ bits
+
+-- bytes whose unused bits are 0 are packed again from the bits that they hold
+abbrev pub Unpacked-packs : Type 0
+Unpacked-packs = (n : ℕ) (bytes : List ℕ) → length bytes ≡ bytesFor n → All (λ b. b < 256) bytes → unused n bytes ≡ 0 → packed (unpacked n bytes) ≡ bytes

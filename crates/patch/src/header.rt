@@ -10,7 +10,7 @@ ghost use Rattle.patch.specs.Rows.{rowOf};
 ghost use Rattle.patch.specs.Patches.{headerOf};
 
 // The numbers that the header has, in their order.
-#[derive(Clone, Copy, Debug, Drop)]
+#[derive(Clone, Copy, Drop)]
 pub struct Header {
     // The number of variables, m.
     pub variables: u32,

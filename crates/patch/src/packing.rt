@@ -5,7 +5,7 @@ ghost use Prim.Native.Nat.{_/_, _%_, _*_, _^_, _≤_, _<_};
 ghost use lib.ListN.{length, getD, set, drop};
 ghost use Rattle.std.specs.Results.{Cases};
 ghost use Rattle.std.specs.Vec.{made};
-ghost use Rattle.formats.specs.Packing.{bytesFor, bitAt, unpacked, unused};
+ghost use Rattle.formats.specs.Packing.{bytesFor, bitAt, unpacked, unused, Packed-unpacks, Unpacked-packs};
 ghost use Rattle.formats.specs.Patch.{unusedRow};
 ghost use Rattle.patch.specs.Rows.{rowOf, unpackRow};
 ghost use Rattle.patch.specs.Patches.{asCells};
@@ -104,6 +104,8 @@ pub fn unpack(m: u32, bytes: &[u8], cells: &mut [Bit]) -> Result<usize, u8>
     ensures refused { λ a. ⌜ rowOf a ≡ unpackRow m (now (bytes .entry)) (length (now (cells .entry))) ⌝ }
     ensures written { λ a. ⌜ Cases a (λ n. (n ≡ 2 ^ m) × (now (cells .exit) ≡ asCells (unpacked n (now (bytes .entry))) ++ drop n (now (cells .entry)))) (λ _. now (cells .exit) ≡ now (cells .entry)) ⌝ }
     ensures bound { λ a. ⌜ made a (λ n. n ≤ length (now (cells .entry))) ⌝ }
+    ensures law { λ _. ⌜ Packed-unpacks ⌝ }
+    ensures converse { λ _. ⌜ Unpacked-packs ⌝ }
 {
     check_packed(m, bytes, cells.len())?;
     let n = points(m);

@@ -11,7 +11,6 @@ ghost use Rattle.formats.specs.Writing.{Written-reads-back, Read-writes-back};
 ghost use Rattle.patch.specs.Rows.{rowOf};
 ghost use Rattle.patch.specs.Patches.{headerOf, IsOf};
 use crate::header::Header;
-use crate::header::HeaderDebug;
 use crate::header::read_header;
 use crate::packing::bytes_for;
 use crate::packing::check_unused;
@@ -19,7 +18,7 @@ use crate::packing::points;
 use crate::places::are_placed;
 
 // What a patch file says. The cells and the name are parts of the file, at the places that the header has.
-#[derive(Clone, Copy, Debug, Drop)]
+#[derive(Clone, Copy, Drop)]
 pub struct Patch<'a> {
     pub file: &'a [u8],
     pub header: Header,
