@@ -7,6 +7,7 @@ use native.Mathlib.Omega.{arith}
 use lib.Count.{ones, onesIn}
 use lib.Dec.{lit<}
 use lib.Ieee.{isNan}
+use Rattle.std.specs.Written.{digits}
 use Rattle.std.specs.declared.option.Option.the-variants.{Some, None}
 use Rattle.polynomials.specs.Monomials.{value}
 use Rattle.polynomials.specs.Binomials.{dimension}
@@ -37,7 +38,7 @@ _and_ : {A B : Type 0} → A → B → A × B
 _and_ a b = (a, b)
 
 pub table-holds : Table-holds
-unfolding value ones onesIn isNan
+unfolding value ones onesIn isNan digits
 table-holds =
     refl
     and refl
@@ -71,5 +72,12 @@ table-holds =
     and refl
     and refl
     and record { accepted = refl; m-is = refl; r-is = refl; T-is = refl; cells-are = refl; roll-is = refl }
+    and refl
+    and refl
+    and refl
+    and refl
+    and refl
+    and refl
+    and refl
     and refl
     and tt

@@ -7,11 +7,12 @@ use lib.Chars.{codes}
 use lib.Ieee.{nan, inf}
 use lib.IntN.{pos, negsuc}
 use Rattle.std.specs.shelf.Lists.{All}
+use Rattle.formats.specs.Lines.{rollLine, wordLine, endLine, stopLine, refusedLine}
 use Rattle.words.specs.Refusals.{byte, row, row-at}
 use Rattle.words.specs.declared.refusals.Fault.the-variants.{Byte, NotANumber, Level, Levels}
 use Rattle.std.specs.declared.result.Result.the-variants.{Ok, Err}
 use Rattle.cases.specs.Samples.{nought, negative-nought, quarter, half, one, below-0, above-0, below-1, above-1, below-17, above-17, file}
-use Rattle.cases.specs.Cases.{Case, Holds, refused, wrote, prefix-order, comes-first, encode, read-back, bit-reads, pixel-reads, word-costs, file-says, file-refused}
+use Rattle.cases.specs.Cases.{Case, Holds, refused, wrote, prefix-order, comes-first, encode, read-back, bit-reads, pixel-reads, word-costs, file-says, file-refused, line-reads}
 
 -- the digits of a text as numbers
 abbrev pub digits : String → List ℕ
@@ -53,6 +54,13 @@ table =
     ∷ word-costs 1 (pos 64 ∷ negsuc 15 ∷ []) (digits "11") 64
     ∷ file-says file 2 1 1 (digits "0001") (codes "R1")
     ∷ file-refused (3 ∷ []) 13
+    ∷ line-reads (rollLine (codes "R1")) "roll R1"
+    ∷ line-reads (rollLine []) "roll "
+    ∷ line-reads (wordLine (digits "000") 1 4) "000 1 4"
+    ∷ line-reads (wordLine (digits "1") 32512 18446744073709551615) "1 32512 18446744073709551615"
+    ∷ line-reads (endLine 4 0) "end 4 0"
+    ∷ line-reads stopLine "stop 1000"
+    ∷ line-reads (refusedLine 14) "refused 14"
     ∷ []
 
 -- every case of the table holds

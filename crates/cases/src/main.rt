@@ -3,6 +3,7 @@
 mod coding;
 mod files;
 mod pixels;
+mod printed;
 mod printing;
 
 ghost use mathlib.Core.Path.{_≡_};
@@ -15,7 +16,7 @@ pub fn worked_cases() -> usize
     ensures count { λ n. ⌜ n ≡ length table ⌝ }
     ensures hold { λ _. ⌜ Table-holds ⌝ }
 {
-    33
+    40
 }
 
 fn main(rt: LibcRuntime) -> io::Result<()> {
@@ -29,5 +30,6 @@ fn main(rt: LibcRuntime) -> io::Result<()> {
     coding::readings(&rt)?;
     pixels::pixels(&rt)?;
     pixels::lists(&rt)?;
-    files::files(&rt)
+    files::files(&rt)?;
+    printed::lines(&rt)
 }
