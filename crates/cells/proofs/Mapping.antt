@@ -16,13 +16,13 @@ module _ {X Y : Type 0} (f : X → Y) (items : List X) (before : List Y) where
   pub mapping-none : Mapping f items before before 0
   mapping-none = record { front = refl; rest = refl; long = refl }
 
-  pub mapping-more : (after : List Y) (i : ℕ) (item : X) → Mapping f items before after i → i < length items → i < length after → item ≡ getD items i item
+  pub mapping-more : (after : List Y) (i : ℕ) (item d : X) → Mapping f items before after i → i < length items → i < length after → item ≡ getD items i d
       → Mapping f items before (set after i (f item)) (i + 1)
-  mapping-more after i item h l room e = record {
+  mapping-more after i item d h l room e = record {
     front =
         take-more-set after i (f item) room
         ∙ ap (λ xs. xs ++ f item ∷ []) (h .front)
-        ∙ sym (ap (map f) (take-more items i item l ∙ ap (λ x. take i items ++ x ∷ []) (sym e)) ∙ map-push f (take i items) item);
+        ∙ sym (ap (map f) (take-more items i d l ∙ ap (λ x. take i items ++ x ∷ []) (sym e)) ∙ map-push f (take i items) item);
     rest =
         drop-set-lt (i + 1) after i (f item) (omega arith)
         ∙ sym (drop-drop 1 i after) ∙ ap (drop 1) (h .rest) ∙ drop-drop 1 i before;

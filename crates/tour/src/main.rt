@@ -1,4 +1,6 @@
-// One task from its beginning to its end: a grade's mark is printed and read back, then damaged and refused.
+// One task from its beginning to its end: a grade's mark is printed and read back, then damaged and refused; the copy comes as a patch file, and is
+// weighed against the mark.
+mod reel;
 mod text;
 
 ghost use mathlib.Core.Path.{_≡_};
@@ -8,6 +10,7 @@ ghost use lib.ListN.{length, getD, set};
 ghost use Rattle.std.specs.Results.{Cases};
 ghost use Rattle.polynomials.specs.Words.{wordOf};
 ghost use Rattle.words.specs.Refusals.{refusalOf, byteRow};
+use reel::reel;
 use std::io;
 use text::spelled;
 use words::Refusal;
@@ -126,16 +129,18 @@ fn main(rt: LibcRuntime) -> io::Result<()> {
     let message = spelled(rt.alloc(), &found, "0", "1")?;
     println!(rt, "Read back from the mark, the same grade:")?;
     println!(rt, "    {message}")?;
-    damage(&mut mark, DAMAGED);
+    let mut copy = mark;
+    damage(&mut copy, DAMAGED);
     println!(
         rt,
         "A copy of the mark with the cell at place {DAMAGED} turned over:"
     )?;
-    show(&rt, &mark)?;
-    let answer = read_back(VARIABLES, ORDER, &mark, &mut found);
+    show(&rt, &copy)?;
+    let answer = read_back(VARIABLES, ORDER, &copy, &mut found);
     report(&rt, answer, &found)?;
     println!(
         rt,
         "Refusal 10 means that no grade of order {ORDER} has just this mark."
-    )
+    )?;
+    reel(&rt, &mark)
 }

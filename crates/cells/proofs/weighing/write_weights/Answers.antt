@@ -15,7 +15,7 @@ loop-place-again g c =
     let fits : SFits w8 (c .weight-or-zero .result) = search needs in
     subst (λ w. Mapping (λ cell. weightOr0 (g .C·Cell .reading cell)) (c .args .cells .now) (c .args .weights .now) (set (c .loop-place .weights) (c .loop-place .place) w) (c .loop-place .place + 1))
     (sym (toZ-ofZ w8 (c .weight-or-zero .result) fits ∙ c .weight-or-zero .ensures))
-    (mapping-more (λ cell. weightOr0 (g .C·Cell .reading cell)) (c .args .cells .now) (c .args .weights .now) (c .loop-place .weights) (c .loop-place .place) (c .index-cells-place .result) (c .loop-place .inv) (c .loop-place-test .taken) (omega (arith, c .loop-place .inv .long)) (c .index-cells-place .is))
+    (mapping-more (λ cell. weightOr0 (g .C·Cell .reading cell)) (c .args .cells .now) (c .args .weights .now) (c .loop-place .weights) (c .loop-place .place) (c .index-cells-place .result) _ (c .loop-place .inv) (c .loop-place-test .taken) (omega (arith, c .loop-place .inv .long)) (c .index-cells-place .is))
 
 pub returns : need.returns
 returns g c =
