@@ -11,6 +11,7 @@ ghost use Rattle.words.specs.Refusals.{refusalOf};
 ghost use Rattle.cells.specs.Readings.{weightOr0, cellRow, weighRow, Weighed};
 use crate::cell::Cell;
 use words::Refusal;
+use words::check_room;
 
 // Refuses the first cell that has no weight, with its place and its fault.
 pub fn check_cells<C: Cell>(cells: &[C]) -> Result<(), Refusal>
@@ -51,9 +52,7 @@ pub fn weigh<C: Cell>(cells: &[C], weights: &mut [i8]) -> Result<usize, Refusal>
     ensures bound { λ a. ⌜ made a (λ n. n ≤ length (now (weights .entry))) ⌝ }
     ensures small { λ a. ⌜ made a (λ n. All (λ w. natAbs w ≤ 127) (take n (now (weights .exit)))) ⌝ }
 {
-    if weights.len() < cells.len() {
-        return Err(Refusal::Room);
-    }
+    check_room(weights.len(), cells.len())?;
     check_cells(cells)?;
     write_weights(cells, weights);
     Ok(cells.len())

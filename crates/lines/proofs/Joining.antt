@@ -1,18 +1,14 @@
 -- The pieces of a line, put one after another, are the line.
 use mathlib.Core.Path.{_≡_, refl, sym, ap, _∙_}
 use mathlib.Core.List.{List, [], _∷_, _++_}
-use mathlib.Core.Bool.{cond}
 use Prim.Native.Nat.{ℕ, _+_, _≤_}
 use native.Mathlib.Omega.{arith}
-use lib.Dec.{ltb}
 use lib.ListN.{length, drop}
 use Rattle.std.specs.Written.{joined}
-use Rattle.std.specs.declared.option.Option.the-variants.{Some, None}
 use Rattle.std.proofs.shelf.Lists.{length-append}
 use Rattle.formats.specs.Putting.{over}
 use Rattle.formats.proofs.Putting.{over-none, over-start, over-more, length-over}
-use Rattle.words.specs.Refusals.{row}
-use Rattle.lines.specs.Rows.{roomRow}
+use Rattle.words.specs.Refusals.{roomRow}
 use Rattle.lines.specs.Pieces.{lengths, puts}
 
 pub length-joined : (ps : List (List ℕ)) → length (joined ps) ≡ lengths ps
@@ -42,5 +38,5 @@ puts-joins ps before after n l e f =
     }
 
 -- where the pieces have no room, the line has none
-pub room-row : (ps : List (List ℕ)) (room needed : ℕ) → needed ≡ lengths ps → cond (ltb room needed) (Some (row 7)) None ≡ roomRow (joined ps) room
-room-row ps room needed e = ap (λ n. cond (ltb room n) (Some (row 7)) None) (e ∙ sym (length-joined ps))
+pub room-row : (ps : List (List ℕ)) (room needed : ℕ) → needed ≡ lengths ps → roomRow room needed ≡ roomRow room (length (joined ps))
+room-row ps room needed e = ap (roomRow room) (e ∙ sym (length-joined ps))

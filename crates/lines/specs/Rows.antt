@@ -1,22 +1,15 @@
 -- What a call that writes a line answers: the first row that refuses it, and the buffer after it.
 use mathlib.Core.Path.{_≡_}
 use mathlib.Core.List.{List, _++_}
-use mathlib.Core.Bool.{cond}
 use Prim.Native.Nat.{ℕ}
-use lib.Dec.{ltb}
 use lib.ListN.{length, drop}
 use Rattle.std.specs.Results.{Cases}
 use Rattle.std.specs.declared.option.Option.{Option}
-use Rattle.std.specs.declared.option.Option.the-variants.{Some, None}
 use Rattle.std.specs.declared.result.Result.{Result}
 use Rattle.polynomials.specs.Binomials.{dimension}
 use Rattle.formats.specs.Lines.{wordLine}
 use Rattle.words.specs.declared.refusals.Refusal.{Refusal}
-use Rattle.words.specs.Refusals.{Told, row, sizeRow, bytesRow}
-
--- row 7: the buffer has less room than the line needs
-abbrev pub roomRow : List ℕ → ℕ → Option Told
-roomRow line room = cond (ltb room (length line)) (Some (row 7)) None
+use Rattle.words.specs.Refusals.{Told, sizeRow, bytesRow}
 
 -- the first row that holds at word_line, with room for so many bytes
 abbrev pub wordLineRow : ℕ → ℕ → List ℕ → ℕ → ℕ → ℕ → Option Told

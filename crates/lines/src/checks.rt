@@ -1,31 +1,17 @@
 // What is refused before a line is written.
 ghost use mathlib.Core.Path.{_≡_};
-ghost use mathlib.Core.Bool.{cond};
 ghost use Prim.Native.Nat.{_+_, _≤_};
-ghost use lib.Dec.{ltb};
 ghost use lib.ListN.{length};
-ghost use Rattle.std.specs.declared.option.Option.the-variants.{Some, None};
 ghost use Rattle.std.specs.Vec.{made};
 ghost use Rattle.std.specs.Written.{decimal};
 ghost use Rattle.polynomials.specs.Messages.{Bits};
-ghost use Rattle.words.specs.Refusals.{refusalOf, row};
+ghost use Rattle.words.specs.Refusals.{refusalOf};
 ghost use Rattle.lines.specs.Rows.{wordLineRow};
 ghost use Rattle.lines.specs.Pieces.{lengths, wordPieces};
 use crate::decimals::width;
 use words::Refusal;
 use words::check_bytes;
 use words::dimension;
-
-// Refuses a buffer with less room than needed.
-pub fn check_room(room: usize, needed: usize) -> Result<(), Refusal>
-    ensures refused { λ a. ⌜ refusalOf a ≡ cond (ltb room needed) (Some (row 7)) None ⌝ }
-    ensures room { λ a. ⌜ made a (λ _. needed ≤ room) ⌝ }
-{
-    if room < needed {
-        return Err(Refusal::Room);
-    }
-    Ok(())
-}
 
 // How long the line of a word is, with a message of k bits.
 fn word_length(k: usize, cost: u32, count: u64) -> usize

@@ -6,16 +6,16 @@ ghost use Rattle.std.specs.Vec.{made};
 ghost use Rattle.polynomials.specs.Messages.{Bits};
 ghost use Rattle.formats.specs.Decimals.{Decimals};
 ghost use Rattle.formats.specs.Lines.{rollLine, wordLine, endLine, stopLine, refusedLine};
-ghost use Rattle.words.specs.Refusals.{refusalOf};
-ghost use Rattle.lines.specs.Rows.{roomRow, wordLineRow, Wrote};
+ghost use Rattle.words.specs.Refusals.{refusalOf, roomRow};
+ghost use Rattle.lines.specs.Rows.{wordLineRow, Wrote};
 ghost use Rattle.lines.specs.Pieces.{lengths, puts, rollPieces, wordPieces, endPieces, stopPieces, refusedPieces};
-use crate::checks::check_room;
 use crate::checks::check_word_line;
 use crate::decimals::put_decimal;
 use crate::decimals::width;
 use crate::putting::put_bits;
 use crate::putting::put_bytes;
 use words::Refusal;
+use words::check_room;
 
 // How long the line with the name of a roll is.
 fn roll_length(name: &[u8]) -> usize
@@ -37,7 +37,7 @@ fn put_roll(name: &[u8], line: &mut [u8]) -> usize
 
 // Writes the line with the name of a roll, and answers its length.
 pub fn roll_line(name: &[u8], line: &mut [u8]) -> Result<usize, Refusal>
-    ensures refused { λ a. ⌜ refusalOf a ≡ roomRow (rollLine (now (name .entry))) (length (now (line .entry))) ⌝ }
+    ensures refused { λ a. ⌜ refusalOf a ≡ roomRow (length (now (line .entry))) (length (rollLine (now (name .entry)))) ⌝ }
     ensures written { λ a. ⌜ Wrote (rollLine (now (name .entry))) (now (line .entry)) (now (line .exit)) a ⌝ }
     ensures bound { λ a. ⌜ made a (λ n. n ≤ length (now (line .entry))) ⌝ }
 {
@@ -100,7 +100,7 @@ fn put_end(words: u64, count: u64, line: &mut [u8]) -> usize
 
 // Writes the line that ends a listing: how many words were listed, and the count of the last call. Answers the line's length.
 pub fn end_line(words: u64, count: u64, line: &mut [u8]) -> Result<usize, Refusal>
-    ensures refused { λ a. ⌜ refusalOf a ≡ roomRow (endLine words count) (length (now (line .entry))) ⌝ }
+    ensures refused { λ a. ⌜ refusalOf a ≡ roomRow (length (now (line .entry))) (length (endLine words count)) ⌝ }
     ensures written { λ a. ⌜ Wrote (endLine words count) (now (line .entry)) (now (line .exit)) a ⌝ }
     ensures bound { λ a. ⌜ made a (λ n. n ≤ length (now (line .entry))) ⌝ }
     ensures decimals { λ _. ⌜ Decimals ⌝ }
@@ -121,7 +121,7 @@ fn put_stop(line: &mut [u8]) -> usize
 
 // Writes the line of a listing that was stopped after 1,000 words, and answers its length.
 pub fn stop_line(line: &mut [u8]) -> Result<usize, Refusal>
-    ensures refused { λ a. ⌜ refusalOf a ≡ roomRow stopLine (length (now (line .entry))) ⌝ }
+    ensures refused { λ a. ⌜ refusalOf a ≡ roomRow (length (now (line .entry))) (length stopLine) ⌝ }
     ensures written { λ a. ⌜ Wrote stopLine (now (line .entry)) (now (line .exit)) a ⌝ }
     ensures bound { λ a. ⌜ made a (λ n. n ≤ length (now (line .entry))) ⌝ }
 {
@@ -149,7 +149,7 @@ fn put_refused(row: u8, line: &mut [u8]) -> usize
 
 // Writes the line of what was refused with this row, and answers its length.
 pub fn refused_line(row: u8, line: &mut [u8]) -> Result<usize, Refusal>
-    ensures refused { λ a. ⌜ refusalOf a ≡ roomRow (refusedLine row) (length (now (line .entry))) ⌝ }
+    ensures refused { λ a. ⌜ refusalOf a ≡ roomRow (length (now (line .entry))) (length (refusedLine row)) ⌝ }
     ensures written { λ a. ⌜ Wrote (refusedLine row) (now (line .entry)) (now (line .exit)) a ⌝ }
     ensures bound { λ a. ⌜ made a (λ n. n ≤ length (now (line .entry))) ⌝ }
     ensures decimals { λ _. ⌜ Decimals ⌝ }

@@ -69,6 +69,10 @@ refusalOf (Err e) = Some (told e)
 abbrev pub sizeRow : ℕ → ℕ → Option Told → Option Told
 sizeRow m r later = cond (ltb 8 m) (Some (row 1)) (cond (ltb m r) (Some (row 2)) later)
 
+-- row 7: a buffer has less room than is needed
+abbrev pub roomRow : ℕ → ℕ → Option Told
+roomRow room needed = cond (ltb room needed) (Some (row 7)) None
+
 -- row 8: the first byte above 1, where the first of the bytes stands at this place
 abbrev pub byteRow : ℕ → List ℕ → Option Told
 byteRow place [] = None

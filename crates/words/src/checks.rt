@@ -4,9 +4,20 @@ ghost use Prim.Native.Nat.{_≤_};
 ghost use lib.ListN.{length};
 ghost use Rattle.std.specs.Vec.{made};
 ghost use Rattle.polynomials.specs.Messages.{Bits};
-ghost use Rattle.words.specs.Refusals.{refusalOf, byteRow, bytesRow};
+ghost use Rattle.words.specs.Refusals.{refusalOf, roomRow, byteRow, bytesRow};
 use crate::refusals::Fault;
 use crate::refusals::Refusal;
+
+// Refuses a buffer with less room than is needed.
+pub fn check_room(room: usize, needed: usize) -> Result<(), Refusal>
+    ensures refused { λ a. ⌜ refusalOf a ≡ roomRow room needed ⌝ }
+    ensures room { λ a. ⌜ made a (λ _. needed ≤ room) ⌝ }
+{
+    if room < needed {
+        return Err(Refusal::Room);
+    }
+    Ok(())
+}
 
 // Refuses the first byte above 1.
 fn check_bits(bytes: &[u8]) -> Result<(), Refusal>
@@ -24,7 +35,7 @@ fn check_bits(bytes: &[u8]) -> Result<(), Refusal>
     Ok(())
 }
 
-// Refuses bytes that are not as many as asked, a buffer with less room than needed, and the first byte above 1.
+// Refuses bytes that are not as many as asked, a buffer with less room than is needed, and the first byte above 1.
 pub fn check_bytes(bytes: &[u8], asked: usize, room: usize, needed: usize) -> Result<(), Refusal>
     ensures refused { λ a. ⌜ refusalOf a ≡ bytesRow (now (bytes .entry)) asked room needed ⌝ }
     ensures bits { λ a. ⌜ made a (λ _. (length (now (bytes .entry)) ≡ asked) × (needed ≤ room) × Bits (now (bytes .entry))) ⌝ }
@@ -32,8 +43,6 @@ pub fn check_bytes(bytes: &[u8], asked: usize, room: usize, needed: usize) -> Re
     if bytes.len() != asked {
         return Err(Refusal::Length);
     }
-    if room < needed {
-        return Err(Refusal::Room);
-    }
+    check_room(room, needed)?;
     check_bits(bytes)
 }

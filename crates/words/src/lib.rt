@@ -7,6 +7,7 @@ mod refusals;
 mod sizes;
 
 pub use checks::check_bytes;
+pub use checks::check_room;
 pub use encoding::encode;
 pub use reading::read_back;
 pub use refusals::Fault;
