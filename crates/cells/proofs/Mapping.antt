@@ -1,7 +1,7 @@
 -- A buffer filled with a value for each item of a list, one after the other.
 use mathlib.Core.Path.{_≡_, refl, sym, ap, ap₂, _∙_}
 use mathlib.Core.List.{List, [], _∷_, _++_, map}
-use Prim.Native.Nat.{ℕ, _+_, _<_, _≤_}
+use Prim.Native.Nat.{ℕ, _+_, _<_}
 use native.Mathlib.Omega.{arith}
 use lib.ListN.{length, getD, set, take, drop, length-set}
 use Rattle.std.proofs.shelf.Lists.{take-more, take-more-set, take-all, drop-set-lt, drop-drop, take-append-drop, map-push}

@@ -5,7 +5,7 @@ use Prim.Native.Nat.{ℕ, _+_, _≤_}
 use native.Mathlib.Omega.{arith}
 use borrow.Author.Differences.{ints}
 use lib.Ieee.{Float, isNan}
-use lib.IntN.{ℤ, pos, _-ℤ_, natAbs}
+use lib.IntN.{pos, _-ℤ_, natAbs}
 use Rattle.std.specs.declared.result.Result.the-variants.{Ok, Err}
 use Rattle.levels.specs.Levels.{inUnit, whole64, above}
 use Rattle.levels.proofs.Sixtyfourths.{whole64-le}

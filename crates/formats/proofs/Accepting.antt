@@ -1,13 +1,11 @@
 -- A patch file is accepted just where its sizes are lawful, its sections lie apart behind the header and within it, and its unused bits are 0.
-use mathlib.Core.Path.{_≡_, refl, ap, _∙_}
+use mathlib.Core.Path.{_≡_, ap, _∙_}
 use mathlib.Core.List.{List}
-use mathlib.Core.Bool.{Bool, true, false, cond, not, _&&_}
+use mathlib.Core.Bool.{true, not, _&&_}
 use Prim.Native.Nat.{ℕ, _+_, _^_, _≤_, min, max}
-use native.Mathlib.Omega.{arith}
 use lib.Dec.{leb}
 use lib.ListN.{length}
-use Rattle.std.specs.declared.option.Option.{Option}
-use Rattle.std.specs.declared.option.Option.the-variants.{Some, None}
+use Rattle.std.specs.declared.option.Option.the-variants.{None}
 use Rattle.std.proofs.shelf.Tests.{ltb-false, leb-true, eqb-true, le-ltb, le-leb, eq-eqb, and-parts, and-from, not-true, not-false, cond-false}
 use Rattle.polynomials.proofs.Choosing.{no-row}
 use Rattle.formats.specs.Packing.{bytesFor, unused}

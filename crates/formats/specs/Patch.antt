@@ -1,7 +1,7 @@
 -- The patch file: what its bytes say, and the first row that refuses it.
 use mathlib.Core.Path.{_≡_}
 use mathlib.Core.List.{List}
-use mathlib.Core.Bool.{Bool, cond, not, _&&_, _||_}
+use mathlib.Core.Bool.{Bool, cond, not, _&&_}
 use Prim.Native.Nat.{ℕ, _+_, _*_, _^_, min, max}
 use lib.Dec.{leb, ltb, eqb}
 use lib.ListN.{length, getD}

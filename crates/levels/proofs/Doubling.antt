@@ -1,6 +1,6 @@
 -- A float times a power of two is exact, as long as the product stays in the format's range.
 use mathlib.Core.Path.{_≡_, refl, sym, ap, _∙_, subst}
-use mathlib.Core.Bool.{Bool, true, false, _&&_}
+use mathlib.Core.Bool.{Bool, false, _&&_}
 use Prim.Native.Nat.{ℕ, zero, suc, _+_, _-_, _*_, _%_, _^_, _≤_, _<_}
 use native.Mathlib.Nat.{mul-assoc, mul-comm, mul-one, one-mul, mul-pos, mul-right-comm, lt-of-mul-lt-mul-right, lt-of-le-of-lt, lt-of-lt-of-le, le-of-eq, lt-irrefl, lt-of-not-le, le-of-suc-le-suc, mul-lt-mul-of-pos-right}
 use native.Mathlib.Omega.{arith}

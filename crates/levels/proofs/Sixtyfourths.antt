@@ -1,7 +1,7 @@
 -- 64 times a level is exact, and its whole part, cut and cast, is `whole64`.
 use mathlib.Core.Path.{_≡_, refl, sym, ap, subst, _∙_}
 use mathlib.Core.Bool.{Bool, true, false, true≢false, false≢true}
-use Prim.Native.Nat.{ℕ, _+_, _*_, _/_, _^_, _≤_, _<_}
+use Prim.Native.Nat.{ℕ, _*_, _/_, _^_, _≤_, _<_}
 use native.Mathlib.Nat.{mul-assoc, mul-pos, div-le-of-le-mul}
 use native.Mathlib.Omega.{arith}
 use lib.IntN.{ℤ, pos}
@@ -11,7 +11,7 @@ use lib.Ieee.Back.{unsigned-back}
 use lib.Ieee.Exact.{HasValue}
 use lib.Ieee.Fits.{down-pos}
 use lib.Ieee.Nearest.{div-same}
-use Rattle.std.proofs.shelf.Tests.{leb-true, eqb-true, le-leb}
+use Rattle.std.proofs.shelf.Tests.{leb-true, eqb-true}
 use Rattle.std.specs.Floats.{withSign, trunc, wholeBy}
 use Rattle.levels.specs.Levels.{inUnit, whole64}
 use Rattle.levels.proofs.Doubling.{doubled}

@@ -1,6 +1,6 @@
 -- Messages and words give each other: a message is read back from its word, and a table of low degree is the word of what is read from it.
 use mathlib.Core.Path.{_≡_, sym, ap, subst, _∙_}
-use mathlib.Core.List.{List, [], _∷_, map}
+use mathlib.Core.List.{List, [], _∷_}
 use mathlib.Core.Logic.{inl, inr}
 use Prim.Native.Nat.{ℕ, _*_, _^_, _%_, _<_}
 use native.Mathlib.Nat.{mod-eq-of-lt}
@@ -13,7 +13,6 @@ use Rattle.std.specs.Iters.{counting}
 use Rattle.std.proofs.shelf.Tests.{cases-eq, lt-leb, leb-false}
 use Rattle.std.proofs.shelf.Elements.{all-getD, all-map}
 use Rattle.std.proofs.shelf.Counted.{getD-map-counting, length-map-counting, fill-by-all}
-use Rattle.polynomials.specs.Sums.{total}
 use Rattle.polynomials.specs.Monomials.{admits, monomials, value}
 use Rattle.polynomials.specs.Messages.{Message}
 use Rattle.polynomials.specs.Words.{sumAt, wordOf, Table, Encodes}

@@ -1,4 +1,4 @@
-use mathlib.Core.Path.{sym, subst, _∙_}
+use mathlib.Core.Path.{sym, subst}
 use native.Mathlib.Omega.{arith}
 use lib.Dec.{T}
 use Rattle.levels.specs.Levels.{whole64}

@@ -1,5 +1,4 @@
-use mathlib.Core.Path.{refl, sym, ap, _∙_}
-use native.Mathlib.Omega.{arith}
+use mathlib.Core.Path.{refl, sym, _∙_}
 use Rattle.std.proofs.shelf.Results.{err-from-errBy}
 use Rattle.cells.proofs.Weights.{no-room, room-enough, weights-written}
 use Rattle.cells.proofs.weighing.weigh.Needs as need

@@ -5,7 +5,7 @@ use native.Mathlib.Omega.{arith}
 use lib.ListN.{getD, drop}
 use Rattle.std.specs.Iters.{counting}
 use Rattle.std.proofs.shelf.Lanes.{map-map}
-use Rattle.formats.specs.Packing.{bitAt, unpacked}
+use Rattle.formats.specs.Packing.{bitAt}
 use Rattle.polynomials.proofs.Filling.{Filling, filling-more, filling-all}
 use Rattle.patch.proofs.packing.write_cells.Needs as need
 

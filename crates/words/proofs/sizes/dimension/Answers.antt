@@ -1,4 +1,4 @@
-use mathlib.Core.Path.{ap, _∙_}
+use mathlib.Core.Path.{_∙_}
 use Rattle.std.proofs.shelf.Results.{err-from-errBy}
 use Rattle.polynomials.proofs.Counting.{monomials-counted}
 use Rattle.words.proofs.sizes.dimension.Needs as need
