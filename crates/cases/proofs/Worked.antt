@@ -71,7 +71,7 @@ table-holds =
     and refl
     and refl
     and refl
-    and record { accepted = refl; m-is = refl; r-is = refl; T-is = refl; cells-are = refl; roll-is = refl }
+    and record { accepted = refl; m-is = refl; r-is = refl; T-is = refl; cells-are = refl; name-is = refl }
     and refl
     and refl
     and refl

@@ -24,7 +24,7 @@ table =
     prefix-order 3 2 (digits "6543210")
     ∷ comes-first (digits "0111") (digits "1000")
     ∷ encode 4 3 (digits "001000110000101") 16 (wrote (digits "1100110100111101"))
-    ∷ encode 9 0 (digits "1") 512 (refused (row 1))
+    ∷ encode 9 0 (digits "1") 256 (refused (row 1))
     ∷ encode 3 4 (digits "1") 8 (refused (row 2))
     ∷ encode 3 1 (digits "010") 8 (refused (row 6))
     ∷ encode 3 1 (digits "0123") 7 (refused (row 7))
@@ -53,7 +53,7 @@ table =
     ∷ word-costs 1 (pos 64 ∷ negsuc 15 ∷ []) (digits "00") 16
     ∷ word-costs 1 (pos 64 ∷ negsuc 15 ∷ []) (digits "11") 64
     ∷ file-says file 2 1 1 (digits "0001") (codes "R1")
-    ∷ file-refused (3 ∷ []) 13
+    ∷ file-refused (2 ∷ []) 13
     ∷ line-reads (rollLine (codes "R1")) "roll R1"
     ∷ line-reads (rollLine []) "roll "
     ∷ line-reads (wordLine (digits "000") 1 4) "000 1 4"

@@ -2,9 +2,9 @@
 // answers is printed.
 mod coding;
 mod files;
-mod pixels;
 mod printed;
 mod printing;
+mod weights;
 
 ghost use mathlib.Core.Path.{_≡_};
 ghost use lib.ListN.{length};
@@ -28,8 +28,10 @@ fn main(rt: LibcRuntime) -> io::Result<()> {
     coding::dimensions(&rt)?;
     coding::encodings(&rt)?;
     coding::readings(&rt)?;
-    pixels::pixels(&rt)?;
-    pixels::lists(&rt)?;
+    weights::pixels(&rt)?;
+    weights::lists(&rt)?;
+    weights::costs(&rt)?;
     files::files(&rt)?;
+    files::unpackings(&rt)?;
     printed::lines(&rt)
 }

@@ -7,7 +7,6 @@ use lines::stop_line;
 use lines::word_line;
 use std::io;
 use std::io::Write;
-use words::Refusal;
 
 // The lines to try.
 #[derive(Clone, Copy)]
@@ -19,23 +18,19 @@ enum Line {
     Refused(u8),
 }
 
-// Writes a line into the buffer by its own call.
-fn write_line(line: &Line, buffer: &mut [u8]) -> Result<usize, Refusal> {
-    match line {
-        Line::Roll(name) => roll_line(name, buffer),
-        Line::Word(m, r, message, cost, count) => word_line(*m, *r, message, *cost, *count, buffer),
-        Line::End(words, count) => end_line(*words, *count, buffer),
-        Line::Stop => stop_line(buffer),
-        Line::Refused(row) => refused_line(*row, buffer),
-    }
-}
-
 // Asks for a line with room for so many bytes, 64 at most, and prints the answer and all of the buffer, which was dots before.
 fn ask(rt: &LibcRuntime, line: &Line, room: usize) -> io::Result<()> {
     let mut bytes = [b'.'; 64];
     let buffer = &mut bytes[0..room.min(64)];
     print!(rt, "line, room {room}: ")?;
-    match write_line(line, buffer) {
+    let answer = match line {
+        Line::Roll(name) => roll_line(name, buffer),
+        Line::Word(m, r, message, cost, count) => word_line(*m, *r, message, *cost, *count, buffer),
+        Line::End(words, count) => end_line(*words, *count, buffer),
+        Line::Stop => stop_line(buffer),
+        Line::Refused(row) => refused_line(*row, buffer),
+    };
+    match answer {
         Ok(n) => println!(rt, "{n} bytes")?,
         Err(refusal) => print_refusal(rt, refusal)?,
     }

@@ -11,6 +11,8 @@ use lib.Pow.{pow-mono}
 use Rattle.std.specs.shelf.Lists.{All}
 use Rattle.std.specs.declared.result.Result.the-variants.{Ok, Err}
 use Rattle.std.proofs.shelf.Elements.{all-getD}
+use Rattle.std.proofs.shelf.Lanes.{map-map}
+use Rattle.std.proofs.shelf.Lists.{length-map}
 use Rattle.std.proofs.shelf.Tests.{ne-eqb, cond-false}
 use Rattle.words.specs.declared.refusals.Fault.{Fault}
 use Rattle.words.specs.declared.refusals.Fault.the-variants.{Byte}
@@ -45,11 +47,13 @@ pays-where-they-differ (suc zero) (suc (suc bit)) w l e = absurd (omega arith)
 pays-where-they-differ (suc (suc byte)) bit w l e = no-weight (Byte (suc (suc byte))) w (sym (other-byte (suc (suc byte)) (omega arith)) ∙ e)
 
 pub cost-is-distance : Cost-is-distance
-cost-is-distance m cells word weights long weighed t =
+cost-is-distance m bits weights word long weighed t =
+    let cells = map (λ cell. cell .byte) bits in
+    let all = length-map bits (λ cell. cell .byte) in
     total-ext (2 ^ m) _ _
     (λ point l. pays-where-they-differ (getD cells point 0) (getD word point 0) (getD weights point (pos 0))
     (all-getD (λ b. b < 2) word point 0 (omega (arith, t .long)) (t .bits))
-    (weighed-at cells weights weighed point (omega arith)))
+    (weighed-at cells weights (map-map bitReading (λ cell. cell .byte) bits ∙ weighed) point (omega (arith, all))))
 
 at-most : (n bound : ℕ) (f : ℕ → ℕ) → ((i : ℕ) → f i ≤ bound) → total n f ≤ bound * n
 at-most zero bound f h = omega arith

@@ -1,5 +1,5 @@
 -- A buffer filled with a value for each item of a list, one after the other.
-use mathlib.Core.Path.{_≡_, refl, sym, ap, ap₂, _∙_}
+use mathlib.Core.Path.{_≡_, sym, ap, ap₂, _∙_}
 use mathlib.Core.List.{List, [], _∷_, _++_, map}
 use Prim.Native.Nat.{ℕ, _+_, _<_}
 use native.Mathlib.Omega.{arith}
@@ -13,9 +13,6 @@ pub record Mapping {X Y : Type 0} (f : X → Y) (items : List X) (before after :
   pub long : length after ≡ length before
 
 module _ {X Y : Type 0} (f : X → Y) (items : List X) (before : List Y) where
-  pub mapping-none : Mapping f items before before 0
-  mapping-none = record { front = refl; rest = refl; long = refl }
-
   pub mapping-more : (after : List Y) (i : ℕ) (item d : X) → Mapping f items before after i → i < length items → i < length after → item ≡ getD items i d
       → Mapping f items before (set after i (f item)) (i + 1)
   mapping-more after i item d h l room e = record {

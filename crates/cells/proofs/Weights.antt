@@ -46,8 +46,8 @@ module _ {C : Type 0} (reading : C → Reading) where
   all-small range (cell ∷ cells) = (or-zero-small (reading cell) (range cell), all-small range cells)
 
   -- row 7 at weigh, and where it does not hold
-  pub no-room : (cells : List C) (room : ℕ) (found : Told) → Some found ≡ roomRow room (length cells) → Some found ≡ weighRow (map reading cells) room
-  no-room cells room found e = stays (ltb room (length cells)) (row 7) (cellRow 0 (map reading cells)) found e ∙ ap (λ n. cond (ltb room n) (Some (row 7)) (cellRow 0 (map reading cells))) (sym (length-map cells reading))
+  pub no-room : (cells : List C) (room : ℕ) (found : Told) → Some found ≡ roomRow room (length cells) None → Some found ≡ weighRow (map reading cells) room
+  no-room cells room found e = stays (ltb room (length cells)) (row 7) (cellRow 0 (map reading cells)) found e ∙ ap (λ n. roomRow room n (cellRow 0 (map reading cells))) (sym (length-map cells reading))
 
   pub room-enough : (cells : List C) (room : ℕ) → length cells ≤ room → weighRow (map reading cells) room ≡ cellRow 0 (map reading cells)
   room-enough cells room h = cond-false _ _ _ (le-ltb room (length (map reading cells)) (omega (arith, length-map cells reading)))

@@ -12,6 +12,7 @@ use Rattle.std.specs.declared.option.Option.the-variants.{Some}
 use Rattle.polynomials.specs.Sums.{total}
 use Rattle.polynomials.specs.Words.{Table}
 use Rattle.words.specs.Refusals.{Told, row, byteRow}
+use Rattle.cells.specs.declared.bit.Bit.{Bit}
 use Rattle.cells.specs.Readings.{Weighed}
 use Rattle.cells.specs.Bits.{bitReading}
 
@@ -43,8 +44,8 @@ costRow m weights word =
 -- with bit cells the cost of a word is its distance from the cells
 abbrev pub Cost-is-distance : Type 0
 Cost-is-distance =
-    (m : ℕ) (cells word : List ℕ) (weights : List ℤ) → length cells ≡ 2 ^ m → Weighed (map bitReading cells) weights → Table m word
-    → cost m weights word ≡ distance m cells word
+    (m : ℕ) (cells : List Bit) (weights : List ℤ) (word : List ℕ) → length cells ≡ 2 ^ m → Weighed (map (λ cell. bitReading (cell .byte)) cells) weights
+    → Table m word → cost m weights word ≡ distance m (map (λ cell. cell .byte) cells) word
 
 -- with weights from -127 to 127 every word of at most 8 variables is within the radius 32,512
 abbrev pub Widest-radius : Type 0

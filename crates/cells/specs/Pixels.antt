@@ -8,7 +8,8 @@ use Rattle.levels.specs.Levels.{inUnit, whole64, above}
 use Rattle.words.specs.declared.refusals.Fault.the-variants.{NotANumber, Level, Levels}
 use Rattle.cells.specs.Readings.{Reading}
 
--- by the darkest and the lightest level: both are numbers, both lie from 0 to 1, the darkest is not above the lightest; then their whole 64ths, less 64
+-- by the darkest and the lightest level: a fault where one is not a number, where one is outside 0 to 1, or where the darkest is above the lightest;
+-- else the whole parts of 64 times each level, together, less 64
 abbrev pub pixelReading : Float → Float → Reading
 pixelReading darkest lightest =
     cond (isNan darkest || isNan lightest) (Err NotANumber)

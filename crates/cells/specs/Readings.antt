@@ -1,9 +1,7 @@
 -- Readings: what a kind of cell says of each cell, and the first row that a list of them gives.
 use mathlib.Core.Path.{_≡_}
 use mathlib.Core.List.{List, [], _∷_, map}
-use mathlib.Core.Bool.{cond}
 use Prim.Native.Nat.{ℕ, _+_, _≤_}
-use lib.Dec.{ltb}
 use lib.IntN.{ℤ, pos, natAbs}
 use lib.ListN.{length}
 use Rattle.std.specs.Vec.{made}
@@ -12,7 +10,7 @@ use Rattle.std.specs.declared.option.Option.the-variants.{Some, None}
 use Rattle.std.specs.declared.result.Result.{Result}
 use Rattle.std.specs.declared.result.Result.the-variants.{Ok, Err}
 use Rattle.words.specs.declared.refusals.Fault.{Fault}
-use Rattle.words.specs.Refusals.{Told, row, toldAt}
+use Rattle.words.specs.Refusals.{Told, roomRow, toldAt}
 
 -- the weight of a cell, or its fault
 abbrev pub Reading : Type 0
@@ -35,7 +33,7 @@ cellRow place (Err fault ∷ later) = Some (toldAt place fault)
 
 -- the first row that holds at weigh, with room for so many weights
 abbrev pub weighRow : List Reading → ℕ → Option Told
-weighRow readings room = cond (ltb room (length readings)) (Some (row 7)) (cellRow 0 readings)
+weighRow readings room = roomRow room (length readings) (cellRow 0 readings)
 
 -- every cell has a weight, and these are the weights
 abbrev pub Weighed : List Reading → List ℤ → Type 0

@@ -42,7 +42,7 @@ fn sixtyfourths(level: f32) -> u8
 pub impl Cell for Pixel as PixelCell {
     ghost reading = { λ cell. pixelReading (cell .darkest) (cell .lightest) };
 
-    // Each of the two levels adds its whole 64th parts, from -64 on.
+    // The whole parts of 64 times the two levels, together, less 64.
     fn read(&self) -> Result<i8, Fault> {
         let darkest = self.darkest;
         let lightest = self.lightest;

@@ -12,25 +12,25 @@ use Rattle.formats.specs.Packing.{bytesFor, unused}
 use Rattle.formats.specs.Patch.{variables, order, radius, count, cellsAt, nameLength, nameAt, cellBytes, lies, share, placed, patchRow}
 
 -- what placed says of two sections
-pub record Apart (size place long other wide : ℕ) : Type 0 where
+pub record Apart (size place long place′ long′ : ℕ) : Type 0 where
   pub behind : 12 ≤ place
   pub within : place + long ≤ size
-  pub other-behind : 12 ≤ other
-  pub other-within : other + wide ≤ size
-  pub no-share : min (place + long) (other + wide) ≤ max place other
+  pub behind′ : 12 ≤ place′
+  pub within′ : place′ + long′ ≤ size
+  pub no-share : min (place + long) (place′ + long′) ≤ max place place′
 
-pub placed-apart : (size place long other wide : ℕ) → placed size place long other wide ≡ true → Apart size place long other wide
-placed-apart size place long other wide e =
-    let both = and-parts (lies size place long && lies size other wide) (not (share place long other wide)) e in
-    let lie = and-parts (lies size place long) (lies size other wide) (both .0) in
+pub placed-apart : (size place long place′ long′ : ℕ) → placed size place long place′ long′ ≡ true → Apart size place long place′ long′
+placed-apart size place long place′ long′ e =
+    let both = and-parts (lies size place long && lies size place′ long′) (not (share place long place′ long′)) e in
+    let lie = and-parts (lies size place long) (lies size place′ long′) (both .0) in
     let one = and-parts (leb 12 place) (leb (place + long) size) (lie .0) in
-    let two = and-parts (leb 12 other) (leb (other + wide) size) (lie .1) in
+    let two = and-parts (leb 12 place′) (leb (place′ + long′) size) (lie .1) in
     record {
       behind = leb-true 12 place (one .0);
       within = leb-true (place + long) size (one .1);
-      other-behind = leb-true 12 other (two .0);
-      other-within = leb-true (other + wide) size (two .1);
-      no-share = ltb-false (max place other) (min (place + long) (other + wide)) (not-true (share place long other wide) (both .1));
+      behind′ = leb-true 12 place′ (two .0);
+      within′ = leb-true (place′ + long′) size (two .1);
+      no-share = ltb-false (max place place′) (min (place + long) (place′ + long′)) (not-true (share place long place′ long′) (both .1));
     }
 
 -- what holds of an accepted file

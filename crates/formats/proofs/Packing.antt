@@ -1,6 +1,6 @@
 -- Bits packed into bytes read back, and bytes whose unused bits are 0 are packed again as they were.
 use mathlib.Core.Path.{_≡_, sym, ap, _∙_}
-use mathlib.Core.List.{List}
+use mathlib.Core.List.{List, [], _∷_}
 use mathlib.Core.Logic.{inl, inr}
 use Prim.Native.Nat.{ℕ, zero, suc, _+_, _-_, _*_, _/_, _%_, _^_, _<_}
 use native.Mathlib.Nat.{zero-div}
@@ -8,9 +8,10 @@ use native.Mathlib.Omega.{arith}
 use borrow.Author.Count.{below-none, below-more}
 use lib.ListN.{length, getD}
 use Rattle.std.specs.shelf.Lists.{All}
+use Rattle.std.specs.Iters.{counting}
 use Rattle.std.proofs.shelf.Bits.{field-of, mod-pow-add}
 use Rattle.std.proofs.shelf.Lists.{ext-getD, getD-past}
-use Rattle.std.proofs.shelf.Elements.{all-getD}
+use Rattle.std.proofs.shelf.Elements.{all-getD, all-map}
 use Rattle.std.proofs.shelf.Counted.{length-map-counting, getD-map-counting}
 use Rattle.std.proofs.shelf.Tests.{cases-lt}
 use Rattle.polynomials.specs.Sums.{total}
@@ -62,8 +63,15 @@ none-low-bits byte (suc k) h =
 pub length-packed : (bits : List ℕ) → length (packed bits) ≡ bytesFor (length bits)
 length-packed bits = length-map-counting (packedByte bits) 0 (bytesFor (length bits))
 
-length-unpacked : (n : ℕ) (bytes : List ℕ) → length (unpacked n bytes) ≡ n
+pub length-unpacked : (n : ℕ) (bytes : List ℕ) → length (unpacked n bytes) ≡ n
 length-unpacked n bytes = length-map-counting (λ i. bitAt (getD bytes (i / 8) 0) (i % 8)) 0 n
+
+pub unpacked-bits : (n : ℕ) (bytes : List ℕ) → Bits (unpacked n bytes)
+unpacked-bits n bytes = all-map (λ b. b < 2) (λ i. bitAt (getD bytes (i / 8) 0) (i % 8)) (counting 0 n) (go (counting 0 n))
+  where
+    go : (places : List ℕ) → All (λ i. bitAt (getD bytes (i / 8) 0) (i % 8) < 2) places
+    go [] = tt
+    go (i ∷ places) = (omega arith, go places)
 
 module _ (bits : List ℕ) (h : Bits bits) where
   bit-below : (i : ℕ) → getD bits i 0 < 2

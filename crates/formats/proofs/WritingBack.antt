@@ -1,4 +1,4 @@
--- An accepted patch file is written as it reads: writing what it says over it changes no byte.
+-- An accepted patch file is one that is lawfully written: writing what it says over it is lawful, and changes no byte.
 use mathlib.Core.Path.{_≡_, refl, sym, ap, _∙_}
 use mathlib.Core.List.{List, _∷_, map}
 use Prim.Native.Nat.{ℕ, _+_, _/_, _%_, _^_, _<_}
@@ -11,10 +11,10 @@ use Rattle.std.proofs.shelf.Counted.{fill-by-all}
 use Rattle.std.proofs.shelf.Elements.{all-getD, all-take, all-drop}
 use Rattle.formats.specs.Putting.{over, part}
 use Rattle.formats.specs.Packing.{bytesFor, packed, unpacked}
-use Rattle.formats.specs.Patch.{pairAt, variables, order, radius, cellsAt, nameLength, nameAt, cellBytes, name, patchRow}
-use Rattle.formats.specs.Writing.{two, header, written, Read-writes-back}
+use Rattle.formats.specs.Patch.{placed, pairAt, variables, order, radius, cellsAt, nameLength, nameAt, cellBytes, nameBytes, patchRow}
+use Rattle.formats.specs.Writing.{two, header, written, Writable, Read-writes-back}
 use Rattle.formats.proofs.Parts.{length-part, getD-part, over-part}
-use Rattle.formats.proofs.Packing.{packed-unpacked}
+use Rattle.formats.proofs.Packing.{length-unpacked, unpacked-bits, packed-unpacked}
 use Rattle.formats.proofs.Accepting.{Apart, placed-apart, Lawful, accepted-lawful}
 
 module _ (file : List ℕ) (small : All (λ b. b < 256) file) (accepted : patchRow file ≡ None) where
@@ -24,8 +24,8 @@ module _ (file : List ℕ) (small : All (λ b. b < 256) file) (accepted : patchR
   apart : Apart (length file) (cellsAt file) (bytesFor (2 ^ variables file)) (nameAt file) (nameLength file)
   apart = placed-apart (length file) (cellsAt file) (bytesFor (2 ^ variables file)) (nameAt file) (nameLength file) (lawful .sections)
 
-  length-name : length (name file) ≡ nameLength file
-  length-name = length-part (nameAt file) (nameLength file) file (apart .other-within)
+  length-name : length (nameBytes file) ≡ nameLength file
+  length-name = length-part (nameAt file) (nameLength file) file (apart .within′)
 
   -- a number that two bytes of the file say is written as these two
   two-same : (n place : ℕ) (later rest : List ℕ) → place + 1 < length file → n ≡ pairAt file place → later ≡ rest
@@ -37,7 +37,7 @@ module _ (file : List ℕ) (small : All (λ b. b < 256) file) (accepted : patchR
       cc
 
   abbrev head : List ℕ
-  head = header (variables file) (order file) (radius file) (2 ^ variables file) (cellsAt file) (length (name file)) (nameAt file)
+  head = header (variables file) (order file) (radius file) (2 ^ variables file) (cellsAt file) (length (nameBytes file)) (nameAt file)
 
   first-twelve : part 0 12 file ≡ map (λ i. getD file i 0) (counting 0 12)
   first-twelve =
@@ -51,7 +51,7 @@ module _ (file : List ℕ) (small : All (λ b. b < 256) file) (accepted : patchR
       (two-same (radius file) 2 _ _ (omega arith) refl
       (two-same (2 ^ variables file) 4 _ _ (omega arith) (sym (lawful .counted))
       (two-same (cellsAt file) 6 _ _ (omega arith) refl
-      (two-same (length (name file)) 8 _ _ (omega arith) length-name
+      (two-same (length (nameBytes file)) 8 _ _ (omega arith) length-name
       (two-same (nameAt file) 10 _ _ (omega arith) refl refl)))))
       ∙ sym first-twelve
 
@@ -62,15 +62,26 @@ module _ (file : List ℕ) (small : All (λ b. b < 256) file) (accepted : patchR
       (all-take (λ b. b < 256) (bytesFor (2 ^ variables file)) (drop (cellsAt file) file) (all-drop (λ b. b < 256) (cellsAt file) file small))
       (lawful .clean)
 
-  unchanged : written file (variables file) (order file) (radius file) (unpacked (2 ^ variables file) (cellBytes file)) (cellsAt file) (name file) (nameAt file)
+  unchanged : written file (variables file) (order file) (radius file) (unpacked (2 ^ variables file) (cellBytes file)) (cellsAt file) (nameBytes file) (nameAt file)
       ≡ file
   unchanged =
       ap (λ bytes. over 0 head (over (cellsAt file) (packed (unpacked (2 ^ variables file) (cellBytes file))) bytes))
-      (over-part (nameAt file) (nameLength file) file (apart .other-within))
+      (over-part (nameAt file) (nameLength file) file (apart .within′))
       ∙ ap (λ new. over 0 head (over (cellsAt file) new file)) cells-same
       ∙ ap (over 0 head) (over-part (cellsAt file) (bytesFor (2 ^ variables file)) file (apart .within))
       ∙ ap (λ new. over 0 new file) head-same
       ∙ over-part 0 12 file (lawful .header-fits)
 
+  writable : Writable file (variables file) (order file) (radius file) (unpacked (2 ^ variables file) (cellBytes file)) (cellsAt file) (nameBytes file) (nameAt file)
+  writable = record {
+    header-fits = lawful .header-fits;
+    short = lawful .short;
+    few = lawful .few;
+    low = lawful .low;
+    near = lawful .near;
+    table = record { long = length-unpacked (2 ^ variables file) (cellBytes file); bits = unpacked-bits (2 ^ variables file) (cellBytes file) };
+    sections = ap (placed (length file) (cellsAt file) (bytesFor (2 ^ variables file)) (nameAt file)) length-name ∙ lawful .sections;
+  }
+
 pub read-writes-back : Read-writes-back
-read-writes-back = unchanged
+read-writes-back file small accepted = (writable file small accepted, unchanged file small accepted)

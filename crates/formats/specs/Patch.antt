@@ -47,25 +47,29 @@ abbrev pub cellBytes : List ℕ → List ℕ
 cellBytes file = part (cellsAt file) (bytesFor (2 ^ variables file)) file
 
 -- the bytes of the name
-abbrev pub name : List ℕ → List ℕ
-name file = part (nameAt file) (nameLength file) file
+abbrev pub nameBytes : List ℕ → List ℕ
+nameBytes file = part (nameAt file) (nameLength file) file
 
 -- a section lies behind the header and within a file of so many bytes
 abbrev pub lies : ℕ → ℕ → ℕ → Bool
 lies size place long = leb 12 place && leb (place + long) size
 
--- two sections share a byte: the later beginning comes before the earlier end
+-- two sections, each by its place and its length, share a byte: the later beginning comes before the earlier end
 abbrev pub share : ℕ → ℕ → ℕ → ℕ → Bool
-share place long other wide = ltb (max place other) (min (place + long) (other + wide))
+share place long place′ long′ = ltb (max place place′) (min (place + long) (place′ + long′))
 
 -- two sections of a file of so many bytes each lie in it, and share no byte
 abbrev pub placed : ℕ → ℕ → ℕ → ℕ → ℕ → Bool
-placed size place long other wide = lies size place long && lies size other wide && not (share place long other wide)
+placed size place long place′ long′ = lies size place long && lies size place′ long′ && not (share place long place′ long′)
+
+-- row 13, the file's length, and then the rows after it
+abbrev pub lengthRow : List ℕ → Option ℕ → Option ℕ
+lengthRow file later = cond (not (leb 12 (length file) && leb (length file) 4096)) (Some 13) later
 
 -- the rows of the file's length, its sizes and its places, and then the rows after them
 abbrev pub headerRow : List ℕ → Option ℕ → Option ℕ
 headerRow file later =
-    cond (not (leb 12 (length file) && leb (length file) 4096)) (Some 13)
+    lengthRow file
     (cond (ltb 8 (variables file)) (Some 1)
     (cond (ltb (variables file) (order file)) (Some 2)
     (cond (ltb 32512 (radius file)) (Some 3)
@@ -82,10 +86,10 @@ abbrev pub patchRow : List ℕ → Option ℕ
 patchRow file = headerRow file (unusedRow (variables file) (cellBytes file))
 
 -- the file is accepted, and says m, r, T, the cells and the name
-pub record Says (file : List ℕ) (m r T : ℕ) (cells roll : List ℕ) : Type 0 where
+pub record Says (file : List ℕ) (m r T : ℕ) (cells name : List ℕ) : Type 0 where
   pub accepted : patchRow file ≡ None
   pub m-is : variables file ≡ m
   pub r-is : order file ≡ r
   pub T-is : radius file ≡ T
   pub cells-are : unpacked (2 ^ m) (cellBytes file) ≡ cells
-  pub roll-is : name file ≡ roll
+  pub name-is : nameBytes file ≡ name

@@ -67,7 +67,7 @@ in-range k l t m e d h =
     (lt-of-le-of-lt (le-of-eq (sym (on-grid k l m e d) ∙ ap (λ (x : ℕ). m * up e * x * 2 ^ l) (one-mul (2 ^ k))))
     (lt-of-lt-of-le (mul-lt-mul-of-pos-right h (pow-pos l)) (le-of-eq (mul-right-comm (2 ^ t) (down e) (2 ^ l) ∙ ap (λ (x : ℕ). x * down e) (mul-comm (2 ^ t) (2 ^ l) ∙ sym (pow-add 2 l t)))))))
 
--- the product has the exact value, with the float's own sign; for one that is not negative
+-- the product of a float that is not negative has the exact value
 pub doubled : (f : Format) (k m : ℕ) (e : ℤ) → T (fits f (fin false m e)) → m * up e * 2 ^ k < 2 ^ suc (emax f) * down e
     → HasValue (mul f (fin false m e) (fin false 1 (pos k))) false (m * up e * (1 * 2 ^ k)) (down e * 1)
 unfolding mul

@@ -8,6 +8,7 @@ use Rattle.std.specs.Written.{joined}
 use Rattle.std.proofs.shelf.Lists.{length-append}
 use Rattle.formats.specs.Putting.{over}
 use Rattle.formats.proofs.Putting.{over-none, over-start, over-more, length-over}
+use Rattle.std.specs.declared.option.Option.the-variants.{None}
 use Rattle.words.specs.Refusals.{roomRow}
 use Rattle.lines.specs.Pieces.{lengths, puts}
 
@@ -38,5 +39,5 @@ puts-joins ps before after n l e f =
     }
 
 -- where the pieces have no room, the line has none
-pub room-row : (ps : List (List ℕ)) (room needed : ℕ) → needed ≡ lengths ps → roomRow room needed ≡ roomRow room (length (joined ps))
-room-row ps room needed e = ap (roomRow room) (e ∙ sym (length-joined ps))
+pub room-row : (ps : List (List ℕ)) (room needed : ℕ) → needed ≡ lengths ps → roomRow room needed None ≡ roomRow room (length (joined ps)) None
+room-row ps room needed e = ap (λ n. roomRow room n None) (e ∙ sym (length-joined ps))

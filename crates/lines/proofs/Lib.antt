@@ -1,4 +1,3 @@
 pub mod Fronts
 pub mod Joining
-pub mod Stopping
 pub mod Needed

@@ -14,10 +14,10 @@ use Rattle.std.proofs.shelf.Lists.{length-map}
 use Rattle.std.proofs.shelf.Tests.{eqb-true, le-ltb, cond-false, cond-true, cases-bool}
 use Rattle.polynomials.specs.Monomials.{down, admits, monomials}
 use Rattle.polynomials.specs.Binomials.{dimension}
-use Rattle.formats.specs.Lines.{wordLine}
+use Rattle.formats.specs.Lines.{wordPieces, wordLine}
 use Rattle.words.specs.Refusals.{bytesRow}
 use Rattle.lines.specs.Rows.{wordLineRow}
-use Rattle.lines.specs.Pieces.{lengths, wordPieces}
+use Rattle.lines.specs.Pieces.{lengths}
 use Rattle.lines.proofs.Joining.{length-joined}
 
 -- ---- an order admits at most as many monomials as there are

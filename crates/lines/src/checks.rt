@@ -7,7 +7,8 @@ ghost use Rattle.std.specs.Written.{decimal};
 ghost use Rattle.polynomials.specs.Messages.{Bits};
 ghost use Rattle.words.specs.Refusals.{refusalOf};
 ghost use Rattle.lines.specs.Rows.{wordLineRow};
-ghost use Rattle.lines.specs.Pieces.{lengths, wordPieces};
+ghost use Rattle.formats.specs.Lines.{wordPieces};
+ghost use Rattle.lines.specs.Pieces.{lengths};
 use crate::decimals::width;
 use words::Refusal;
 use words::check_bytes;
@@ -22,7 +23,7 @@ fn word_length(k: usize, cost: u32, count: u64) -> usize
 }
 
 // Refuses what cannot be written as the line of a word into so much room.
-pub fn check_word_line(
+pub(crate) fn check_word_line(
     m: u32,
     r: u32,
     message: &[u8],

@@ -6,7 +6,7 @@ ghost use Rattle.std.specs.Written.{decimal};
 ghost use Rattle.formats.specs.Putting.{over};
 
 // How many decimal digits a number has.
-pub fn width(n: u64) -> usize
+pub(crate) fn width(n: u64) -> usize
     ensures value { λ w. ⌜ w ≡ length (decimal n) ⌝ }
     ensures bound { λ w. ⌜ w ≤ 20 ⌝ }
 {
@@ -31,7 +31,7 @@ fn put_digit(digit: u8, line: &mut [u8], place: usize) -> usize
 }
 
 // Puts a number in decimal digits into the buffer from this place on, and answers the place after them.
-pub fn put_decimal(n: u64, line: &mut [u8], place: usize) -> usize
+pub(crate) fn put_decimal(n: u64, line: &mut [u8], place: usize) -> usize
     requires room { ⌜ place + length (decimal n) ≤ length (now line) ⌝ }
     ensures after { λ p. ⌜ p ≡ place + length (decimal n) ⌝ }
     ensures put { λ _. ⌜ now (line .exit) ≡ over place (decimal n) (now (line .entry)) ⌝ }

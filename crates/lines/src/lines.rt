@@ -3,12 +3,13 @@ ghost use mathlib.Core.Path.{_≡_};
 ghost use Prim.Native.Nat.{_≤_};
 ghost use lib.ListN.{length};
 ghost use Rattle.std.specs.Vec.{made};
+ghost use Rattle.std.specs.declared.option.Option.the-variants.{None};
 ghost use Rattle.polynomials.specs.Messages.{Bits};
 ghost use Rattle.formats.specs.Decimals.{Decimals};
-ghost use Rattle.formats.specs.Lines.{rollLine, wordLine, endLine, stopLine, refusedLine};
+ghost use Rattle.formats.specs.Lines.{rollPieces, wordPieces, endPieces, stopPieces, refusedPieces, rollLine, wordLine, endLine, stopLine, refusedLine};
 ghost use Rattle.words.specs.Refusals.{refusalOf, roomRow};
 ghost use Rattle.lines.specs.Rows.{wordLineRow, Wrote};
-ghost use Rattle.lines.specs.Pieces.{lengths, puts, rollPieces, wordPieces, endPieces, stopPieces, refusedPieces};
+ghost use Rattle.lines.specs.Pieces.{lengths, puts};
 use crate::checks::check_word_line;
 use crate::decimals::put_decimal;
 use crate::decimals::width;
@@ -37,7 +38,7 @@ fn put_roll(name: &[u8], line: &mut [u8]) -> usize
 
 // Writes the line with the name of a roll, and answers its length.
 pub fn roll_line(name: &[u8], line: &mut [u8]) -> Result<usize, Refusal>
-    ensures refused { λ a. ⌜ refusalOf a ≡ roomRow (length (now (line .entry))) (length (rollLine (now (name .entry)))) ⌝ }
+    ensures refused { λ a. ⌜ refusalOf a ≡ roomRow (length (now (line .entry))) (length (rollLine (now (name .entry)))) None ⌝ }
     ensures written { λ a. ⌜ Wrote (rollLine (now (name .entry))) (now (line .entry)) (now (line .exit)) a ⌝ }
     ensures bound { λ a. ⌜ made a (λ n. n ≤ length (now (line .entry))) ⌝ }
 {
@@ -100,7 +101,7 @@ fn put_end(words: u64, count: u64, line: &mut [u8]) -> usize
 
 // Writes the line that ends a listing: how many words were listed, and the count of the last call. Answers the line's length.
 pub fn end_line(words: u64, count: u64, line: &mut [u8]) -> Result<usize, Refusal>
-    ensures refused { λ a. ⌜ refusalOf a ≡ roomRow (length (now (line .entry))) (length (endLine words count)) ⌝ }
+    ensures refused { λ a. ⌜ refusalOf a ≡ roomRow (length (now (line .entry))) (length (endLine words count)) None ⌝ }
     ensures written { λ a. ⌜ Wrote (endLine words count) (now (line .entry)) (now (line .exit)) a ⌝ }
     ensures bound { λ a. ⌜ made a (λ n. n ≤ length (now (line .entry))) ⌝ }
     ensures decimals { λ _. ⌜ Decimals ⌝ }
@@ -121,7 +122,7 @@ fn put_stop(line: &mut [u8]) -> usize
 
 // Writes the line of a listing that was stopped after 1,000 words, and answers its length.
 pub fn stop_line(line: &mut [u8]) -> Result<usize, Refusal>
-    ensures refused { λ a. ⌜ refusalOf a ≡ roomRow (length (now (line .entry))) (length stopLine) ⌝ }
+    ensures refused { λ a. ⌜ refusalOf a ≡ roomRow (length (now (line .entry))) (length stopLine) None ⌝ }
     ensures written { λ a. ⌜ Wrote stopLine (now (line .entry)) (now (line .exit)) a ⌝ }
     ensures bound { λ a. ⌜ made a (λ n. n ≤ length (now (line .entry))) ⌝ }
 {
@@ -149,7 +150,7 @@ fn put_refused(row: u8, line: &mut [u8]) -> usize
 
 // Writes the line of what was refused with this row, and answers its length.
 pub fn refused_line(row: u8, line: &mut [u8]) -> Result<usize, Refusal>
-    ensures refused { λ a. ⌜ refusalOf a ≡ roomRow (length (now (line .entry))) (length (refusedLine row)) ⌝ }
+    ensures refused { λ a. ⌜ refusalOf a ≡ roomRow (length (now (line .entry))) (length (refusedLine row)) None ⌝ }
     ensures written { λ a. ⌜ Wrote (refusedLine row) (now (line .entry)) (now (line .exit)) a ⌝ }
     ensures bound { λ a. ⌜ made a (λ n. n ≤ length (now (line .entry))) ⌝ }
     ensures decimals { λ _. ⌜ Decimals ⌝ }

@@ -24,7 +24,7 @@ pub record IsOf (bytes : List ℕ) (patch : Patch) : Type 0 where
   pub file-is : patch .file .now ≡ bytes
   pub header-is : patch .header ≡ headerOf bytes
   pub cells-are : patch .cells .now ≡ format.cellBytes bytes
-  pub name-is : patch .name .now ≡ format.name bytes
+  pub name-is : patch .name .now ≡ format.nameBytes bytes
 
 -- bits as cells
 abbrev pub asCells : List ℕ → List Bit

@@ -1,11 +1,9 @@
 // The header of a patch file: its first twelve bytes.
 ghost use mathlib.Core.Path.{_≡_};
-ghost use mathlib.Core.Bool.{cond, not, _&&_};
 ghost use Prim.Native.Nat.{_+_, _*_, _≤_};
-ghost use lib.Dec.{leb};
-ghost use lib.ListN.{length};
 ghost use Rattle.std.specs.Vec.{made};
-ghost use Rattle.std.specs.declared.option.Option.the-variants.{Some, None};
+ghost use Rattle.std.specs.declared.option.Option.the-variants.{None};
+ghost use Rattle.formats.specs.Patch.{lengthRow};
 ghost use Rattle.patch.specs.Rows.{rowOf};
 ghost use Rattle.patch.specs.Patches.{headerOf};
 
@@ -37,8 +35,8 @@ fn pair(high: u8, low: u8) -> usize
 }
 
 // Reads the header of a file of 12 to 4,096 bytes.
-pub fn read_header(file: &[u8]) -> Result<Header, u8>
-    ensures refused { λ a. ⌜ rowOf a ≡ cond (not (leb 12 (length (now (file .entry))) && leb (length (now (file .entry))) 4096)) (Some 13) None ⌝ }
+pub(crate) fn read_header(file: &[u8]) -> Result<Header, u8>
+    ensures refused { λ a. ⌜ rowOf a ≡ lengthRow (now (file .entry)) None ⌝ }
     ensures header { λ a. ⌜ made a (λ h. h ≡ headerOf (now (file .entry))) ⌝ }
 {
     let [m, r, t1, t0, n1, n0, c1, c0, l1, l0, a1, a0, ..] = file else {

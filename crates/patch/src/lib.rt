@@ -1,3 +1,4 @@
+// The patch file: reading it, and unpacking its cells.
 mod header;
 mod packing;
 mod places;

@@ -12,7 +12,7 @@ ghost use Rattle.patch.specs.Patches.{asCells};
 use cells::Bit;
 
 // The number of cells of m variables.
-pub fn points(m: u32) -> usize
+pub(crate) fn points(m: u32) -> usize
     requires { ⌜ m ≤ 8 ⌝ }
     ensures value { λ n. ⌜ n ≡ 2 ^ m ⌝ }
     ensures low_bound { λ n. ⌜ 1 ≤ n ⌝ }
@@ -22,7 +22,7 @@ pub fn points(m: u32) -> usize
 }
 
 // How many bytes the cells of m variables need.
-pub fn bytes_for(m: u32) -> usize
+pub(crate) fn bytes_for(m: u32) -> usize
     requires { ⌜ m ≤ 8 ⌝ }
     ensures value { λ n. ⌜ n ≡ bytesFor (2 ^ m) ⌝ }
     ensures bound { λ n. ⌜ n ≤ 32 ⌝ }
@@ -30,12 +30,20 @@ pub fn bytes_for(m: u32) -> usize
     (points(m) + 7) >> 3
 }
 
+// The lowest bits of a byte, so many of them, as a number.
+fn low_bits(byte: u8, count: usize) -> u8
+    requires { ⌜ count < 8 ⌝ }
+    ensures { λ n. ⌜ n ≡ byte % 2 ^ count ⌝ }
+{
+    byte & ((1 << count) - 1)
+}
+
 // The bit of a byte at a place from 0 to 7, the highest at 0.
 fn bit_of(byte: u8, place: usize) -> u8
     requires { ⌜ place < 8 ⌝ }
     ensures { λ b. ⌜ b ≡ bitAt byte place ⌝ }
 {
-    byte >> (7 - place) & 1
+    low_bits(byte >> (7 - place), 1)
 }
 
 // Writes one cell.
@@ -67,11 +75,11 @@ fn unused_bits(m: u32, bytes: &[u8]) -> u8
     ensures { λ u. ⌜ u ≡ unused (2 ^ m) (now (bytes .entry)) ⌝ }
 {
     let spare = 8 * bytes.len() - points(m);
-    bytes[bytes.len() - 1] & ((1 << spare) - 1)
+    low_bits(bytes[bytes.len() - 1], spare)
 }
 
 // Refuses bytes whose last one has an unused bit that is 1.
-pub fn check_unused(m: u32, bytes: &[u8]) -> Result<(), u8>
+pub(crate) fn check_unused(m: u32, bytes: &[u8]) -> Result<(), u8>
     requires few { ⌜ m ≤ 8 ⌝ }
     requires bytes { ⌜ length (now bytes) ≡ bytesFor (2 ^ m) ⌝ }
     ensures { λ a. ⌜ rowOf a ≡ unusedRow m (now (bytes .entry)) ⌝ }
@@ -104,8 +112,8 @@ pub fn unpack(m: u32, bytes: &[u8], cells: &mut [Bit]) -> Result<usize, u8>
     ensures refused { λ a. ⌜ rowOf a ≡ unpackRow m (now (bytes .entry)) (length (now (cells .entry))) ⌝ }
     ensures written { λ a. ⌜ Cases a (λ n. (n ≡ 2 ^ m) × (now (cells .exit) ≡ asCells (unpacked n (now (bytes .entry))) ++ drop n (now (cells .entry)))) (λ _. now (cells .exit) ≡ now (cells .entry)) ⌝ }
     ensures bound { λ a. ⌜ made a (λ n. n ≤ length (now (cells .entry))) ⌝ }
-    ensures law { λ _. ⌜ Packed-unpacks ⌝ }
-    ensures converse { λ _. ⌜ Unpacked-packs ⌝ }
+    ensures undoes_packing { λ _. ⌜ Packed-unpacks ⌝ }
+    ensures packs_again { λ _. ⌜ Unpacked-packs ⌝ }
 {
     check_packed(m, bytes, cells.len())?;
     let n = points(m);

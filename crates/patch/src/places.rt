@@ -13,25 +13,31 @@ fn is_inside(size: usize, place: usize, long: usize) -> bool
 }
 
 // Whether two sections share a byte: the later beginning comes before the earlier end.
-fn share_byte(place: usize, long: usize, other: usize, wide: usize) -> bool
+fn share_byte(place: usize, long: usize, other: usize, other_long: usize) -> bool
     requires place { ⌜ place ≤ 65535 ⌝ }
     requires long { ⌜ long ≤ 65535 ⌝ }
     requires other { ⌜ other ≤ 65535 ⌝ }
-    requires wide { ⌜ wide ≤ 65535 ⌝ }
-    ensures { λ b. ⌜ b ≡ share place long other wide ⌝ }
+    requires other_long { ⌜ «other_long» ≤ 65535 ⌝ }
+    ensures { λ b. ⌜ b ≡ share place long other «other_long» ⌝ }
 {
-    place.max(other) < (place + long).min(other + wide)
+    place.max(other) < (place + long).min(other + other_long)
 }
 
 // Whether two sections lie in a file of so many bytes and share none of them.
-pub fn are_placed(size: usize, place: usize, long: usize, other: usize, wide: usize) -> bool
+pub(crate) fn are_placed(
+    size: usize,
+    place: usize,
+    long: usize,
+    other: usize,
+    other_long: usize,
+) -> bool
     requires place { ⌜ place ≤ 65535 ⌝ }
     requires long { ⌜ long ≤ 65535 ⌝ }
     requires other { ⌜ other ≤ 65535 ⌝ }
-    requires wide { ⌜ wide ≤ 65535 ⌝ }
-    ensures { λ b. ⌜ b ≡ placed size place long other wide ⌝ }
+    requires other_long { ⌜ «other_long» ≤ 65535 ⌝ }
+    ensures { λ b. ⌜ b ≡ placed size place long other «other_long» ⌝ }
 {
     is_inside(size, place, long)
-        && is_inside(size, other, wide)
-        && !share_byte(place, long, other, wide)
+        && is_inside(size, other, other_long)
+        && !share_byte(place, long, other, other_long)
 }

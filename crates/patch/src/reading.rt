@@ -72,8 +72,8 @@ fn part_of(file: &[u8], place: usize, long: usize) -> &[u8]
 pub fn read_patch(file: &[u8]) -> Result<Patch<'_>, u8>
     ensures refused { λ a. ⌜ rowOf a ≡ patchRow (now (file .entry)) ⌝ }
     ensures patch { λ a. ⌜ made a (λ p. IsOf (now (file .entry)) p) ⌝ }
-    ensures law { λ _. ⌜ Written-reads-back ⌝ }
-    ensures converse { λ _. ⌜ Read-writes-back ⌝ }
+    ensures reads_back { λ _. ⌜ Written-reads-back ⌝ }
+    ensures writes_back { λ _. ⌜ Read-writes-back ⌝ }
 {
     let header = check_header(file)?;
     let cells = part_of(file, header.cells_at, bytes_for(header.variables));

@@ -1,5 +1,5 @@
 -- A buffer filled by a function of the place, one place after the other: the front is the function's, and the rest is as it was.
-use mathlib.Core.Path.{_≡_, refl, sym, ap, ap₂, _∙_}
+use mathlib.Core.Path.{_≡_, sym, ap, ap₂, _∙_}
 use mathlib.Core.List.{List, [], _∷_, _++_, map}
 use Prim.Native.Nat.{ℕ, _+_, _<_}
 use native.Mathlib.Omega.{arith}
@@ -14,9 +14,6 @@ pub record Filling {Y : Type 0} (f : ℕ → Y) (before after : List Y) (done : 
   pub long : length after ≡ length before
 
 module _ {Y : Type 0} (f : ℕ → Y) (before : List Y) where
-  pub filling-none : Filling f before before 0
-  filling-none = record { front = refl; rest = refl; long = refl }
-
   pub filling-more : (after : List Y) (i : ℕ) → Filling f before after i → i < length after → Filling f before (set after i (f i)) (i + 1)
   filling-more after i h l = record {
     front =

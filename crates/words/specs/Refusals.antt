@@ -69,9 +69,9 @@ refusalOf (Err e) = Some (told e)
 abbrev pub sizeRow : ℕ → ℕ → Option Told → Option Told
 sizeRow m r later = cond (ltb 8 m) (Some (row 1)) (cond (ltb m r) (Some (row 2)) later)
 
--- row 7: a buffer has less room than is needed
-abbrev pub roomRow : ℕ → ℕ → Option Told
-roomRow room needed = cond (ltb room needed) (Some (row 7)) None
+-- row 7, a buffer with less room than is needed, and then the rows after it
+abbrev pub roomRow : ℕ → ℕ → Option Told → Option Told
+roomRow room needed later = cond (ltb room needed) (Some (row 7)) later
 
 -- row 8: the first byte above 1, where the first of the bytes stands at this place
 abbrev pub byteRow : ℕ → List ℕ → Option Told
@@ -81,7 +81,7 @@ byteRow place (b ∷ bs) = cond (ltb 1 b) (Some (row-at 8 place (byte b))) (byte
 -- rows 6, 7 and 8: bytes that should be so many and 0 or 1 each, and a buffer's room with what it needs
 abbrev pub bytesRow : List ℕ → ℕ → ℕ → ℕ → Option Told
 bytesRow bytes asked room needed =
-    cond (not (eqb (length bytes) asked)) (Some (row 6)) (cond (ltb room needed) (Some (row 7)) (byteRow 0 bytes))
+    cond (not (eqb (length bytes) asked)) (Some (row 6)) (roomRow room needed (byteRow 0 bytes))
 
 -- the first row that holds at dimension
 abbrev pub dimensionRow : ℕ → ℕ → Option Told

@@ -3,6 +3,7 @@ ghost use mathlib.Core.Path.{_≡_};
 ghost use Prim.Native.Nat.{_≤_};
 ghost use lib.ListN.{length};
 ghost use Rattle.std.specs.Vec.{made};
+ghost use Rattle.std.specs.declared.option.Option.the-variants.{None};
 ghost use Rattle.polynomials.specs.Messages.{Bits};
 ghost use Rattle.words.specs.Refusals.{refusalOf, roomRow, byteRow, bytesRow};
 use crate::refusals::Fault;
@@ -10,7 +11,7 @@ use crate::refusals::Refusal;
 
 // Refuses a buffer with less room than is needed.
 pub fn check_room(room: usize, needed: usize) -> Result<(), Refusal>
-    ensures refused { λ a. ⌜ refusalOf a ≡ roomRow room needed ⌝ }
+    ensures refused { λ a. ⌜ refusalOf a ≡ roomRow room needed None ⌝ }
     ensures room { λ a. ⌜ made a (λ _. needed ≤ room) ⌝ }
 {
     if room < needed {
@@ -38,7 +39,7 @@ fn check_bits(bytes: &[u8]) -> Result<(), Refusal>
 // Refuses bytes that are not as many as asked, a buffer with less room than is needed, and the first byte above 1.
 pub fn check_bytes(bytes: &[u8], asked: usize, room: usize, needed: usize) -> Result<(), Refusal>
     ensures refused { λ a. ⌜ refusalOf a ≡ bytesRow (now (bytes .entry)) asked room needed ⌝ }
-    ensures bits { λ a. ⌜ made a (λ _. (length (now (bytes .entry)) ≡ asked) × (needed ≤ room) × Bits (now (bytes .entry))) ⌝ }
+    ensures asked { λ a. ⌜ made a (λ _. (length (now (bytes .entry)) ≡ asked) × (needed ≤ room) × Bits (now (bytes .entry))) ⌝ }
 {
     if bytes.len() != asked {
         return Err(Refusal::Length);

@@ -1,4 +1,4 @@
-// Why a call is refused. docs/REFUSALS.md has the rows and their numbers.
+// Refusals and faults. docs/REFUSALS.md has the rows and their numbers.
 ghost use mathlib.Core.Path.{_≡_};
 ghost use Rattle.words.specs.Refusals.{faultRow, told, number};
 
@@ -29,13 +29,14 @@ impl Fault {
     }
 }
 
+// Why a call is refused.
 #[derive(Clone, Copy, Debug, Drop)]
 pub enum Refusal {
     // More than eight variables.
     Variables,
     // An order above the number of variables.
     Order,
-    // A message, a table or a list of cells of another length than asked.
+    // A message, a word or a list of another length than asked.
     Length,
     // A buffer shorter than what the call may write.
     Room,

@@ -18,6 +18,6 @@ returns c =
     let k = c .in-Continue-k .ensures tt .value in
     record {
       refused = c .check-bytes .ensures .refused ∙ word-row _ _ _ _ _ (c .word-length .ensures) _ _ _ few low k;
-      room = made-weaker (c .check-bytes .result) _ _ (λ _ h. omega (arith, h .1, word-pieces _ _ _ _ _ (c .word-length .ensures) (h .0))) (c .check-bytes .ensures .bits);
-      bits = made-weaker (c .check-bytes .result) _ _ (λ _ h. h .2) (c .check-bytes .ensures .bits);
+      room = made-weaker (c .check-bytes .result) _ _ (λ _ h. omega (arith, h .1, word-pieces _ _ _ _ _ (c .word-length .ensures) (h .0))) (c .check-bytes .ensures .asked);
+      bits = made-weaker (c .check-bytes .result) _ _ (λ _ h. h .2) (c .check-bytes .ensures .asked);
     }

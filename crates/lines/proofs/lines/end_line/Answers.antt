@@ -2,7 +2,7 @@ use mathlib.Core.Path.{_∙_}
 use native.Mathlib.Omega.{arith}
 use Rattle.std.proofs.shelf.Results.{err-from-errBy}
 use Rattle.formats.proofs.Decimals.{decimals}
-use Rattle.lines.specs.Pieces.{endPieces}
+use Rattle.formats.specs.Lines.{endPieces}
 use Rattle.lines.proofs.Joining.{puts-joins, room-row}
 use Rattle.lines.proofs.lines.end_line.Needs as need
 

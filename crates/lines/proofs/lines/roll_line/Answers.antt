@@ -1,7 +1,7 @@
 use mathlib.Core.Path.{_∙_}
 use native.Mathlib.Omega.{arith}
 use Rattle.std.proofs.shelf.Results.{err-from-errBy}
-use Rattle.lines.specs.Pieces.{rollPieces}
+use Rattle.formats.specs.Lines.{rollPieces}
 use Rattle.lines.proofs.Joining.{puts-joins, room-row}
 use Rattle.lines.proofs.lines.roll_line.Needs as need
 

@@ -1,6 +1,6 @@
 use Rattle.std.proofs.shelf.Results.{err-from-errBy}
 use Rattle.formats.proofs.Decimals.{decimals}
-use Rattle.lines.specs.Pieces.{wordPieces}
+use Rattle.formats.specs.Lines.{wordPieces}
 use Rattle.lines.proofs.Joining.{puts-joins}
 use Rattle.lines.proofs.lines.word_line.Needs as need
 

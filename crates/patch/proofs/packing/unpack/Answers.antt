@@ -10,8 +10,8 @@ returns-in-Break-check-packed c =
       refused = rw (p .1, p .2) (c .in-Break-check-packed .ensures tt .refused);
       written = rw (p .1);
       bound = rw (p .1) tt;
-      law = unpacked-packed;
-      converse = packed-unpacked;
+      undoes-packing = unpacked-packed;
+      packs-again = packed-unpacked;
     }
 
 pub returns : need.returns
@@ -22,6 +22,6 @@ returns c =
       refused = ok .refused;
       written = (n, c .write-cells .ensures);
       bound = omega (arith, n, ok .sizes .2);
-      law = unpacked-packed;
-      converse = packed-unpacked;
+      undoes-packing = unpacked-packed;
+      packs-again = packed-unpacked;
     }

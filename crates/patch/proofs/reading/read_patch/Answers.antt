@@ -20,8 +20,8 @@ returns-in-Break-header c =
     record {
       refused = rw (p .1, p .2) (sym (header-first file later ∙ ap (λ o. first o later) (sym (c .in-Break-header .ensures tt .refused))));
       patch = rw (p .1) tt;
-      law = written-reads-back;
-      converse = read-writes-back;
+      reads-back = written-reads-back;
+      writes-back = read-writes-back;
     }
 
 pub check-unused-requires : need.check-unused-requires
@@ -52,8 +52,8 @@ returns-in-Break-check-unused c =
     record {
       refused = rw (p .1, p .2) (c .in-Break-check-unused .ensures tt ∙ sym (rows-are (need.at·returns-in-Break-check-unused c .After-part-of-cells)));
       patch = rw (p .1) tt;
-      law = written-reads-back;
-      converse = read-writes-back;
+      reads-back = written-reads-back;
+      writes-back = read-writes-back;
     }
 
 pub returns : need.returns
@@ -68,6 +68,6 @@ returns c =
         cells-are = cells-are cut;
         name-is = c .part-of-name .ensures ∙ name-part _ _ (ok .header);
       };
-      law = written-reads-back;
-      converse = read-writes-back;
+      reads-back = written-reads-back;
+      writes-back = read-writes-back;
     }
