@@ -1,3 +1,4 @@
+pub mod Strengths
 pub mod Samples
 pub mod Cases
 pub mod Table

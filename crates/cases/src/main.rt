@@ -4,6 +4,7 @@ mod coding;
 mod files;
 mod printed;
 mod printing;
+mod strength;
 mod weights;
 
 ghost use mathlib.Core.Path.{_≡_};

@@ -1,6 +1,8 @@
 // Pixels at the edges, lists of cells with faults, and costs.
 use crate::printing::print_fault;
 use crate::printing::print_refusal;
+use crate::strength::Strength;
+use crate::strength::StrengthCell;
 use cells::Bit;
 use cells::BitCell;
 use cells::Cell;
@@ -80,7 +82,7 @@ fn ask_list<C: Cell>(rt: &LibcRuntime, cells: &[C], room: usize) -> io::Result<(
     }
 }
 
-// Bits, and lists of bits and of pixels: accepted, with faults, and without room.
+// Bits, and lists of bits, of pixels and of a kind from outside the library: accepted, with faults, and without room.
 pub fn lists(rt: &LibcRuntime) -> io::Result<()> {
     for byte in [0u8, 1, 2, 255] {
         ask_bit(rt, byte)?;
@@ -112,7 +114,17 @@ pub fn lists(rt: &LibcRuntime) -> io::Result<()> {
     print!(rt, "pixels (1, 1), (0.5, 0.25), (2, 2), room 3: ")?;
     ask_list(rt, &pixels, 3)?;
     print!(rt, "no pixels, room 0: ")?;
-    ask_list(rt, &pixels[0..0], 0)
+    ask_list(rt, &pixels[0..0], 0)?;
+    let strengths = [
+        Strength { strength: 127 },
+        Strength { strength: -127 },
+        Strength { strength: 0 },
+        Strength { strength: -128 },
+    ];
+    print!(rt, "strengths 127 -127 0, room 4: ")?;
+    ask_list(rt, &strengths[0..3], 4)?;
+    print!(rt, "strengths 127 -127 0 -128, room 4: ")?;
+    ask_list(rt, &strengths, 4)
 }
 
 // Asks for a cost, and prints the question and the answer.
