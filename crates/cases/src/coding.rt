@@ -43,7 +43,7 @@ fn ask_read_back(rt: &LibcRuntime, m: u32, r: u32, table: &[u8], room: usize) ->
 }
 
 // The rows of dimension, and the largest sizes.
-pub fn dimensions(rt: &LibcRuntime) -> io::Result<()> {
+pub(crate) fn dimensions(rt: &LibcRuntime) -> io::Result<()> {
     ask_dimension(rt, 0, 0)?;
     ask_dimension(rt, 8, 4)?;
     ask_dimension(rt, 8, 8)?;
@@ -53,7 +53,7 @@ pub fn dimensions(rt: &LibcRuntime) -> io::Result<()> {
 }
 
 // The rows of encode.
-pub fn encodings(rt: &LibcRuntime) -> io::Result<()> {
+pub(crate) fn encodings(rt: &LibcRuntime) -> io::Result<()> {
     ask_encode(rt, 4, 3, &[0, 0, 1, 0, 0, 0, 1, 1, 0, 0, 0, 0, 1, 0, 1], 16)?;
     ask_encode(rt, 9, 0, &[1], 256)?;
     ask_encode(rt, 3, 4, &[1], 8)?;
@@ -63,7 +63,7 @@ pub fn encodings(rt: &LibcRuntime) -> io::Result<()> {
 }
 
 // The rows of read_back.
-pub fn readings(rt: &LibcRuntime) -> io::Result<()> {
+pub(crate) fn readings(rt: &LibcRuntime) -> io::Result<()> {
     ask_read_back(
         rt,
         4,

@@ -140,7 +140,7 @@ fn ask_file(rt: &LibcRuntime, size: usize, bytes: &[u8; 15]) -> io::Result<()> {
 }
 
 // Tries each of the files, and prints its size, its first bytes and the answer.
-pub fn files(rt: &LibcRuntime) -> io::Result<()> {
+pub(crate) fn files(rt: &LibcRuntime) -> io::Result<()> {
     for (size, bytes) in &FILES {
         print!(rt, "file of {size}, {bytes:?}: ")?;
         ask_file(rt, *size, bytes)?;
@@ -149,7 +149,7 @@ pub fn files(rt: &LibcRuntime) -> io::Result<()> {
 }
 
 // The rows of unpack, and all bits of a byte.
-pub fn unpackings(rt: &LibcRuntime) -> io::Result<()> {
+pub(crate) fn unpackings(rt: &LibcRuntime) -> io::Result<()> {
     print!(rt, "unpack, m=3, 165, room 8: ")?;
     ask_unpack(rt, 3, &[165], 8)?;
     print!(rt, "unpack, m=4, 1 128, room 16: ")?;

@@ -39,7 +39,7 @@ fn ask(rt: &LibcRuntime, line: &Line, room: usize) -> io::Result<()> {
 }
 
 // A line of each kind, the longest ones, and each row that refuses one.
-pub fn lines(rt: &LibcRuntime) -> io::Result<()> {
+pub(crate) fn lines(rt: &LibcRuntime) -> io::Result<()> {
     ask(rt, &Line::Roll(b"R1"), 12)?;
     ask(rt, &Line::Roll(b"R1"), 8)?;
     ask(rt, &Line::Roll(b"R1"), 7)?;

@@ -5,7 +5,7 @@ use words::Fault;
 use words::Refusal;
 
 // Prints bytes as digits.
-pub fn print_digits(rt: &LibcRuntime, bytes: &[u8]) -> io::Result<()> {
+pub(crate) fn print_digits(rt: &LibcRuntime, bytes: &[u8]) -> io::Result<()> {
     for byte in bytes {
         print!(rt, "{byte}")?;
     }
@@ -13,7 +13,7 @@ pub fn print_digits(rt: &LibcRuntime, bytes: &[u8]) -> io::Result<()> {
 }
 
 // Prints bytes as digits, and ends the line.
-pub fn print_word(rt: &LibcRuntime, bytes: &[u8]) -> io::Result<()> {
+pub(crate) fn print_word(rt: &LibcRuntime, bytes: &[u8]) -> io::Result<()> {
     print_digits(rt, bytes)?;
     println!(rt, "")
 }
@@ -36,14 +36,14 @@ fn print_values(rt: &LibcRuntime, fault: Fault) -> io::Result<()> {
 }
 
 // Prints the row of a fault with what comes with it.
-pub fn print_fault(rt: &LibcRuntime, fault: Fault) -> io::Result<()> {
+pub(crate) fn print_fault(rt: &LibcRuntime, fault: Fault) -> io::Result<()> {
     let row = fault.number();
     print!(rt, "refused {row}")?;
     print_values(rt, fault)
 }
 
 // Prints the row of a refusal with what comes with it.
-pub fn print_refusal(rt: &LibcRuntime, refusal: Refusal) -> io::Result<()> {
+pub(crate) fn print_refusal(rt: &LibcRuntime, refusal: Refusal) -> io::Result<()> {
     let row = refusal.number();
     match refusal {
         Refusal::At { place, fault } => {

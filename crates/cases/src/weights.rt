@@ -47,7 +47,7 @@ fn ask_pixel(rt: &LibcRuntime, dark: u32, light: u32) -> io::Result<()> {
 }
 
 // Every pair of the levels.
-pub fn pixels(rt: &LibcRuntime) -> io::Result<()> {
+pub(crate) fn pixels(rt: &LibcRuntime) -> io::Result<()> {
     for dark in &LEVELS {
         for light in &LEVELS {
             ask_pixel(rt, *dark, *light)?;
@@ -83,7 +83,7 @@ fn ask_list<C: Cell>(rt: &LibcRuntime, cells: &[C], room: usize) -> io::Result<(
 }
 
 // Bits, and lists of bits, of pixels and of a kind from outside the library: accepted, with faults, and without room.
-pub fn lists(rt: &LibcRuntime) -> io::Result<()> {
+pub(crate) fn lists(rt: &LibcRuntime) -> io::Result<()> {
     for byte in [0u8, 1, 2, 255] {
         ask_bit(rt, byte)?;
     }
@@ -137,7 +137,7 @@ fn ask_cost(rt: &LibcRuntime, m: u32, weights: &[i8], word: &[u8]) -> io::Result
 }
 
 // Costs, the rows that refuse one, and the largest.
-pub fn costs(rt: &LibcRuntime) -> io::Result<()> {
+pub(crate) fn costs(rt: &LibcRuntime) -> io::Result<()> {
     ask_cost(rt, 2, &[1, 1, 1, -1], &[0, 0, 0, 0])?;
     ask_cost(rt, 1, &[64, -16], &[0, 0])?;
     ask_cost(rt, 1, &[64, -16], &[1, 1])?;

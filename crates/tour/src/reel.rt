@@ -91,7 +91,7 @@ fn show_file(rt: &LibcRuntime, file: &[u8], mark: &[u8]) -> io::Result<()> {
 }
 
 // The file as it comes, and the file with its header damaged.
-pub fn reel(rt: &LibcRuntime, mark: &[u8]) -> io::Result<()> {
+pub(crate) fn reel(rt: &LibcRuntime, mark: &[u8]) -> io::Result<()> {
     let mut file = FILE;
     println!(rt, "The copy as it comes in a patch file:")?;
     show_file(rt, &file, mark)?;

@@ -16,7 +16,12 @@ fn glyph<'a>(byte: u8, zero: &'a str, one: &'a str) -> &'a str
 }
 
 // The texts of some bytes, one after the other.
-pub fn spelled(heap: Global, bytes: &[u8], zero: &str, one: &str) -> Result<String, AllocError>
+pub(crate) fn spelled(
+    heap: Global,
+    bytes: &[u8],
+    zero: &str,
+    one: &str,
+) -> Result<String, AllocError>
     ensures { λ a. ⌜ made a (λ t. string-bytes t ≡ spell (now (zero .entry)) (now (one .entry)) (now (bytes .entry))) ⌝ }
 {
     let mut text = String::new(heap);
