@@ -1,5 +1,8 @@
 // The worked cases: one theorem proves them all of the definitions. The calls among them are made here too, with more beside, and what the library
 // answers is printed.
+
+#![tactic(auto)]
+
 mod coding;
 mod files;
 mod printed;

@@ -1,4 +1,7 @@
 // Cells as they come back from the film: kinds of cell, their weights, and the cost of a word.
+
+#![tactic(auto)]
+
 mod bit;
 mod cell;
 mod costs;

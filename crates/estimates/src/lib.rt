@@ -1,4 +1,7 @@
 // Estimates: what a word costs at least, by a prefix of its message.
+
+#![tactic(auto)]
+
 mod choice;
 mod estimate;
 mod greater;

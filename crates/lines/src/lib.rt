@@ -1,4 +1,7 @@
 // The lines that a program prints, each written into a buffer by a call of its own.
+
+#![tactic(auto)]
+
 mod checks;
 mod decimals;
 mod lines;

@@ -1,4 +1,7 @@
 // The patch file: reading it, and unpacking its cells.
+
+#![tactic(auto)]
+
 mod header;
 mod packing;
 mod places;

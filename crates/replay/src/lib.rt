@@ -1,4 +1,7 @@
 // A list of calls, made in turn on a new reader: the one call whose contract carries the whole law over runs.
+
+#![tactic(auto)]
+
 mod replaying;
 mod turns;
 

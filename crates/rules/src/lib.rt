@@ -1,1 +1,3 @@
 // Rules of estimates and what holds of them: definitions in specs/, laws in proofs/. There is no code.
+
+#![tactic(auto)]

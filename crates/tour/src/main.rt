@@ -1,5 +1,8 @@
 // One task from its beginning to its end: a grade's mark is printed and read back, then damaged and refused; the copy comes as a patch file, and is
 // weighed against the mark.
+
+#![tactic(auto)]
+
 mod reel;
 mod text;
 

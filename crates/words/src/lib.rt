@@ -1,4 +1,7 @@
 // Messages and words: the dimension of a code, encoding, and reading back.
+
+#![tactic(auto)]
+
 mod checks;
 mod encoding;
 mod monomials;

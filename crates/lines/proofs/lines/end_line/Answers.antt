@@ -5,12 +5,12 @@ use Rattle.formats.specs.Lines.{end_pieces}
 use Rattle.lines.proofs.Joining.{puts_joins, room_row_joined}
 use Rattle.lines.proofs.lines.end_line.Goals as goal
 
-pub returns-in-err-check-room : goal.returns-in-err-check-room
-returns-in-err-check-room c =
-    let p = err_from_is_err_and c.from-residual.result c.from-residual.ensures.1 in
-    let row = c.in-err-check-room.ensures.refused in
+pub returns-in_err-check_room : goal.returns-in_err-check_room
+returns-in_err-check_room c =
+    let p = err_from_is_err_and c.from_residual.result c.from_residual.ensures.1 in
+    let row = c.in_err-check_room.ensures.refused in
     record {
-      refused = rw (p.1, p.2) (row ∙ room_row_joined (end_pieces c.args.words c.args.count) _ _ c.end-length.ensures);
+      refused = rw (p.1, p.2) (row ∙ room_row_joined (end_pieces c.args.words c.args.count) _ _ c.end_length.ensures);
       written = rw p.1;
       bound = rw p.1 tt;
       decimals = decimals;
@@ -18,9 +18,9 @@ returns-in-err-check-room c =
 
 pub returns : goal.returns
 returns c =
-    let ok = c.in-ok-check-room.ensures in
-    let put = c.put-end.ensures in
-    let needed = c.end-length.ensures in
+    let ok = c.in_ok-check_room.ensures in
+    let put = c.put_end.ensures in
+    let needed = c.end_length.ensures in
     let h = puts_joins (end_pieces c.args.words c.args.count) _ _ _ (omega (arith, ok.room)) put.after put.put in
     record {
       refused = ok.refused ∙ room_row_joined (end_pieces c.args.words c.args.count) _ _ needed;

@@ -4,11 +4,11 @@ use Rattle.formats.specs.Lines.{word_pieces}
 use Rattle.lines.proofs.Joining.{puts_joins}
 use Rattle.lines.proofs.lines.word_line.Goals as goal
 
-pub returns-in-err-check-word-line : goal.returns-in-err-check-word-line
-returns-in-err-check-word-line c =
-    let p = err_from_is_err_and c.from-residual.result c.from-residual.ensures.1 in
+pub returns-in_err-check_word_line : goal.returns-in_err-check_word_line
+returns-in_err-check_word_line c =
+    let p = err_from_is_err_and c.from_residual.result c.from_residual.ensures.1 in
     record {
-      refused = rw (p.1, p.2) c.in-err-check-word-line.ensures.refused;
+      refused = rw (p.1, p.2) c.in_err-check_word_line.ensures.refused;
       written = rw p.1;
       bound = rw p.1 tt;
       decimals = decimals;
@@ -16,8 +16,8 @@ returns-in-err-check-word-line c =
 
 pub returns : goal.returns
 returns c =
-    let ok = c.in-ok-check-word-line.ensures in
-    let put = c.put-word.ensures in
+    let ok = c.in_ok-check_word_line.ensures in
+    let put = c.put_word.ensures in
     let h = puts_joins (word_pieces c.args.message.now c.args.cost c.args.count) _ _ _ ok.room put.after put.put in
     record {
       refused = ok.refused;

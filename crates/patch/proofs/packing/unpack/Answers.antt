@@ -3,25 +3,25 @@ use Rattle.std.proofs.lemmas.Result.{err_from_is_err_and}
 use Rattle.formats.proofs.Packing.{unpacked_packed, packed_unpacked}
 use Rattle.patch.proofs.packing.unpack.Goals as goal
 
-pub returns-in-err-check-packed : goal.returns-in-err-check-packed
-returns-in-err-check-packed c =
-    let p = err_from_is_err_and c.from-residual.result c.from-residual.ensures.1 in
+pub returns-in_err-check_packed : goal.returns-in_err-check_packed
+returns-in_err-check_packed c =
+    let p = err_from_is_err_and c.from_residual.result c.from_residual.ensures.1 in
     record {
-      refused = rw (p.1, p.2) c.in-err-check-packed.ensures.refused;
+      refused = rw (p.1, p.2) c.in_err-check_packed.ensures.refused;
       written = rw p.1;
       bound = rw p.1 tt;
-      undoes-packing = unpacked_packed;
-      packs-again = packed_unpacked;
+      undoes_packing = unpacked_packed;
+      packs_again = packed_unpacked;
     }
 
 pub returns : goal.returns
 returns c =
-    let ok = c.in-ok-check-packed.ensures in
+    let ok = c.in_ok-check_packed.ensures in
     let n = c.points-n.ensures.value in
     record {
       refused = ok.refused;
-      written = (n, c.write-cells.ensures);
+      written = (n, c.write_cells.ensures);
       bound = omega (arith, n, ok.sizes.2);
-      undoes-packing = unpacked_packed;
-      packs-again = packed_unpacked;
+      undoes_packing = unpacked_packed;
+      packs_again = packed_unpacked;
     }

@@ -6,4 +6,4 @@ use Rattle.patch.proofs.packing.write_cell.Goals as goal
 pub returns : goal.returns
 returns c =
     ap (λ b. set c.args.cells.now c.args.place (record { byte = b }))
-    (c.bit-of.ensures ∙ ap (bit_at (get_or c.args.bytes.now (c.args.place / 8) 0)) (and_mask c.args.place 3))
+    (c.bit_of.ensures ∙ ap (bit_at (get_or c.args.bytes.now (c.args.place / 8) 0)) (and_mask c.args.place 3))

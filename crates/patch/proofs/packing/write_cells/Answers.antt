@@ -7,7 +7,7 @@ use Rattle.patch.proofs.packing.write_cells.Goals as goal
 
 pub loop-place-preserved : goal.loop-place-preserved
 loop-place-preserved c =
-    subst (λ t. Filling (λ i. record { byte = bit_at (get_or c.args.bytes.now (i / 8) 0) (i % 8) }) c.args.cells.now t (c.loop-place.place + 1)) (sym c.write-cell.ensures)
+    subst (λ t. Filling (λ i. record { byte = bit_at (get_or c.args.bytes.now (i / 8) 0) (i % 8) }) c.args.cells.now t (c.loop-place.place + 1)) (sym c.write_cell.ensures)
     (filling_more _ _ _ _ c.loop-place.invariant (omega (arith, c.loop-place.invariant.long)))
 
 pub returns : goal.returns

@@ -13,9 +13,9 @@ loop-turn-init g c = record { led = c.new-reader.ensures.history; law = tt; same
 pub loop-turn-preserved : goal.loop-turn-preserved
 loop-turn-preserved g c =
     made_more g.C.Cell.reading g.E.Estimate.rule c.args.turns.now c.loop-turn.turns c.loop-turn.turn-index
-    (get_or c.loop-turn.turns c.loop-turn.turn-index c.turn-item.result) c.take-turn.new.turn c.loop-turn.auto.turns c.loop-turn-test.true
+    (get_or c.loop-turn.turns c.loop-turn.turn-index c.turn-item.result) c.take_turn.new.turn c.loop-turn.auto.turns c.loop-turn-test.true
     (ap (λ d. get_or c.loop-turn.turns c.loop-turn.turn-index d) c.turn-item.is) c.loop-turn.invariant.rest
-    (view c.loop-turn.reader) (view c.take-turn.new.reader) c.loop-turn.invariant c.take-turn.ensures.law c.take-turn.ensures.same
+    (view c.loop-turn.reader) (view c.take_turn.new.reader) c.loop-turn.invariant c.take_turn.ensures.law c.take_turn.ensures.same
 
 pub returns : goal.returns
 returns g c =

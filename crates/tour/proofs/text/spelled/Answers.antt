@@ -6,7 +6,7 @@ use Rattle.tour.proofs.text.spelled.Goals as goal
 
 pub loop-byte-preserved : goal.loop-byte-preserved
 loop-byte-preserved c =
-    let pushed : string_bytes c.push-str.new.self ≡ string_bytes c.loop-byte.text ++ c.glyph.result.now = search rules in
+    let pushed : string_bytes c.push_str.new.self ≡ string_bytes c.loop-byte.text ++ c.glyph.result.now = search rules in
     pushed ∙ ap₂ {C = List ℕ} ◌++◌ c.loop-byte.invariant c.glyph.ensures
     ∙ sym (spell_more c.args.zero.now c.args.one.now c.args.bytes.now c.loop-byte.byte-index c.loop-byte-test.true)
 

@@ -6,7 +6,7 @@ use Rattle.words.proofs.encoding.write_word.Goals as goal
 
 pub loop-point-preserved : goal.loop-point-preserved
 loop-point-preserved c =
-    subst (λ t. Filling (λ point. sum_at (monomials c.args.m c.args.r) c.args.message.now point % 2) c.args.word.now t (c.loop-point.point + 1)) (sym c.write-point.ensures)
+    subst (λ t. Filling (λ point. sum_at (monomials c.args.m c.args.r) c.args.message.now point % 2) c.args.word.now t (c.loop-point.point + 1)) (sym c.write_point.ensures)
     (filling_more _ _ _ _ c.loop-point.invariant (omega (arith, c.loop-point.invariant.long)))
 
 pub returns : goal.returns

@@ -8,29 +8,29 @@ use Rattle.polynomials.proofs.Reading.{coefficients_message, encodes_coefficient
 use Rattle.words.proofs.Rows.{row_10_degree, word_readable}
 use Rattle.words.proofs.reading.read_back.Goals as goal
 
-pub returns-in-err-k : goal.returns-in-err-k
-returns-in-err-k c =
-    let p = err_from_is_err_and c.from-residual.result c.from-residual.ensures.1 in
-    let row = c.in-err-k.ensures.refused in
+pub returns-in_err-k : goal.returns-in_err-k
+returns-in_err-k c =
+    let p = err_from_is_err_and c.from_residual.result c.from_residual.ensures.1 in
+    let row = c.in_err-k.ensures.refused in
     record {
       refused = rw (p.1, p.2) row;
       written = rw p.1;
       bound = rw p.1 tt;
       degree = rw (p.1, p.2) (row_10_degree _ _ _ _ _ row);
-      undoes-encode = λ sent e few low long. rw p.1 (word_readable _ _ _ _ _ _ e few low long row);
+      undoes_encode = λ sent e few low long. rw p.1 (word_readable _ _ _ _ _ _ e few low long row);
       law = words_are_low_degree;
       inversion = inversion;
     }
 
 pub returns : goal.returns
 returns c =
-    let ok = c.in-ok-k.ensures in
+    let ok = c.in_ok-k.ensures in
     let k = ok.sizes.1 in
     let found = coefficients c.args.m c.args.r c.args.table.now in
-    let long : length found ≡ c.in-ok-k.k = (coefficients_message c.args.m c.args.r c.args.table.now).long ∙ sym k in
-    let front : take c.in-ok-k.k c.write-message.new.message ≡ found
-    = ap (take c.in-ok-k.k) c.write-message.ensures ∙ take_at found _ _ long in
-    let reads : ReadsBack c.args.m c.args.r c.args.table.now (take c.in-ok-k.k c.write-message.new.message)
+    let long : length found ≡ c.in_ok-k.k = (coefficients_message c.args.m c.args.r c.args.table.now).long ∙ sym k in
+    let front : take c.in_ok-k.k c.write_message.new.message ≡ found
+    = ap (take c.in_ok-k.k) c.write_message.ensures ∙ take_at found _ _ long in
+    let reads : ReadsBack c.args.m c.args.r c.args.table.now (take c.in_ok-k.k c.write_message.new.message)
     = subst (ReadsBack c.args.m c.args.r c.args.table.now) (sym front)
     (words_differ _ _ _ _ (encodes_coefficients _ _ _ ok.word.0 ok.word.1)) in
     record {
@@ -38,11 +38,11 @@ returns c =
       written = (
         k,
         reads,
-        ap (drop c.in-ok-k.k) c.write-message.ensures ∙ drop_at found _ _ long ∙ ap (λ n. drop n c.args.message.now) (sym k),
+        ap (drop c.in_ok-k.k) c.write_message.ensures ∙ drop_at found _ _ long ∙ ap (λ n. drop n c.args.message.now) (sym k),
       );
       bound = ok.sizes.2;
       degree = ok.word.1;
-      undoes-encode = λ sent e few low long. sym (reads.only sent e);
+      undoes_encode = λ sent e few low long. sym (reads.only sent e);
       law = words_are_low_degree;
       inversion = inversion;
     }

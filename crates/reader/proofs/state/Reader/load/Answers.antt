@@ -20,24 +20,24 @@ returns-then-cells-points g c =
       history = λ h l. load_history {X = Unit {0}} h _ _ (Err Length) l readings first refl;
     }
 
-pub returns-in-err-weigh : goal.returns-in-err-weigh
-returns-in-err-weigh g c =
-    let p = err_from_is_err_and c.from-residual.result c.from-residual.ensures.1 in
+pub returns-in_err-weigh : goal.returns-in_err-weigh
+returns-in_err-weigh g c =
+    let p = err_from_is_err_and c.from_residual.result c.from_residual.ensures.1 in
     let readings = map g.C.Cell.reading c.args.cells.now in
-    let first : refusal_of c.from-residual.result ≡ load_row (view c.args.self.now).shape readings
-    = rw (p.1, p.2) (c.in-err-weigh.ensures.refused ∙ right_count g.C.Cell.reading c.args.cells.now _ (record { m = c.args.self.now.m; r = c.args.self.now.r }) c.points.result c.if-not-self.false c.points.ensures.value (length c.args.self.now.weights) c.if-cells-points.false (omega arith)) in
+    let first : refusal_of c.from_residual.result ≡ load_row (view c.args.self.now).shape readings
+    = rw (p.1, p.2) (c.in_err-weigh.ensures.refused ∙ right_count g.C.Cell.reading c.args.cells.now _ (record { m = c.args.self.now.m; r = c.args.self.now.r }) c.points.result c.if-not-self.false c.points.ensures.value (length c.args.self.now.weights) c.if-cells-points.false (omega arith)) in
     record {
       refused = first;
       state = rw p.1;
-      history = λ h l. load_history h _ _ c.from-residual.result l readings first (rw p.1);
+      history = λ h l. load_history h _ _ c.from_residual.result l readings first (rw p.1);
     }
 
 pub returns : goal.returns
 returns g c =
-    let ok = c.in-ok-weigh.ensures in
+    let ok = c.in_ok-weigh.ensures in
     let readings = map g.C.Cell.reading c.args.cells.now in
     let first : None ≡ load_row (view c.args.self.now).shape readings = ok.refused ∙ right_count g.C.Cell.reading c.args.cells.now _ (record { m = c.args.self.now.m; r = c.args.self.now.r }) c.points.result c.if-not-self.false c.points.ensures.value (length c.args.self.now.weights) c.if-cells-points.false (omega arith) in
-    let all : c.in-ok-weigh.field-0 ≡ 2 ^ c.args.self.now.m = ok.written.0 ∙ c.if-cells-points.false ∙ c.points.ensures.value in
+    let all : c.in_ok-weigh.field-0 ≡ 2 ^ c.args.self.now.m = ok.written.0 ∙ c.if-cells-points.false ∙ c.points.ensures.value in
     let weights = take (2 ^ c.args.self.now.m) c.weigh.new.weights in
     let weighed : Weighed readings weights = subst (λ n. Weighed readings (take n c.weigh.new.weights)) all ok.written.1 in
     record {
