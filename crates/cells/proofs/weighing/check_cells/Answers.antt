@@ -11,7 +11,7 @@ returns-in-Err g c = record {
 
 pub loop-place-preserved : goal.loop-place-preserved
 loop-place-preserved g c =
-    sym (weight_here g.C.Cell.reading c.args.cells.now c.loop-place.place c.index-cells-place.result c.in-default.field-0 c.loop-place-test.true c.index-cells-place.is c.in-default.ensures)
+    sym (weight_here g.C.Cell.reading c.args.cells.now c.loop-place.place c.index-cells-place.result c.in_default.field-0 c.loop-place-test.true c.index-cells-place.is c.in_default.ensures)
     ∙ c.loop-place.invariant
 
 pub returns : goal.returns

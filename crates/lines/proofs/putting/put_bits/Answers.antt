@@ -7,8 +7,8 @@ use Rattle.lines.proofs.putting.put_bits.Goals as goal
 pub loop-i-init : goal.loop-i-init
 loop-i-init c = sym (over_none c.args.place c.args.line.now)
 
-pub overflow-add-line : goal.overflow-add-line
-overflow-add-line c = omega (arith, All-get_or (λ b. b < 2) c.args.bits.now c.loop-i.i 0 c.loop-i-test.true c.requires.bits)
+pub overflow_add-line : goal.overflow_add-line
+overflow_add-line c = omega (arith, All-get_or (λ b. b < 2) c.args.bits.now c.loop-i.i 0 c.loop-i-test.true c.requires.bits)
 
 pub bounds-line-place : goal.bounds-line-place
 bounds-line-place c = omega (arith, length-map c.args.bits.now (λ b. 48 + b), c.loop-i-test.true)
