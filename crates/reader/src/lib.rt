@@ -3,7 +3,6 @@
 #![tactic(auto)]
 
 mod calls;
-mod next;
 mod state;
 
 pub use state::Reader;
