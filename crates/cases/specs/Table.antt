@@ -2,7 +2,7 @@
 use Rattle.std.specs.Prelude.{ℕ, ◌-◌, true, false, List, [], ◌∷◌, map, pos, negsuc, Ok, Err, codes}
 use Prim.Native.String.{String}
 use Rattle.std.specs.Float.{nan, inf}
-use Rattle.std.specs.List.{AllByRecursion as All}
+use Rattle.std.specs.List.{AllByRecursion}
 use Rattle.formats.specs.Lines.{roll_line, word_line, end_line, stop_line, refused_line}
 use Rattle.words.specs.Refusals.{byte, row, row_at}
 use Rattle.words.specs.declared.refusals.Fault.TheVariants.{Byte, NotANumber, Level, Levels}
@@ -60,4 +60,4 @@ table =
 
 -- every case of the table holds
 abbrev pub TableHolds : Type 0
-TableHolds = All Holds table
+TableHolds = AllByRecursion Holds table

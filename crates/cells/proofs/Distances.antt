@@ -1,6 +1,6 @@
 -- With bit cells the cost of a word is its distance from the cells; and no cost is above the widest radius.
 use Rattle.std.proofs.Common.{◌≡◌, ℕ, zero, suc, ◌*◌, ◌^◌, ◌<◌, ◌≤◌, cond, eqb, List, [], ◌∷◌, map, length, get_or, ℤ, pos, negsuc, nat_abs, Ok, Err, sym, refl, ◌∙◌, subst, arith, lit≤, pow_mono}
-use Rattle.std.specs.List.{AllByRecursion as All}
+use Rattle.std.specs.List.{AllByRecursion}
 use Rattle.std.proofs.ByRecursion.{All-get_or}
 use Rattle.std.proofs.lemmas.Simd.{map-map}
 use Rattle.std.proofs.lemmas.List.{length-map}
@@ -50,7 +50,7 @@ at_most : (n bound : ℕ) (f : ℕ → ℕ) → ((i : ℕ) → f i ≤ bound) �
 at_most zero bound f h = omega arith
 at_most (suc n) bound f h = omega (arith, at_most n bound f h, h n)
 
-small_at : (weights : List ℤ) (point : ℕ) → All (λ w. nat_abs w ≤ 127) weights → nat_abs (get_or weights point (pos 0)) ≤ 127
+small_at : (weights : List ℤ) (point : ℕ) → AllByRecursion (λ w. nat_abs w ≤ 127) weights → nat_abs (get_or weights point (pos 0)) ≤ 127
 small_at [] point h = lit≤ tt
 small_at (w ∷ ws) zero h = h.0
 small_at (w ∷ ws) (suc point) h = small_at ws point h.1

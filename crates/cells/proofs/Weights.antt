@@ -1,6 +1,6 @@
 -- Where no cell is without a weight, what was read are the weights; and all of them are small.
 use Rattle.std.proofs.Common.{◌≡◌, ℕ, ◌+◌, ◌≤◌, Bool, true, false, cond, ltb, List, [], ◌∷◌, ◌++◌, map, length, take, drop, ℤ, nat_abs, Some, None, Ok, Err, Option, sym, refl, ap, ◌∙◌, subst, arith, lit≤}
-use Rattle.std.specs.List.{AllByRecursion as All}
+use Rattle.std.specs.List.{AllByRecursion}
 use Rattle.std.proofs.lemmas.List.{length-map, take_at, drop_at}
 use Rattle.std.proofs.lemmas.Bool.{le-ltb, cond-false}
 use Rattle.words.specs.Refusals.{Told, row, room_row}
@@ -19,7 +19,7 @@ or_zero_small (Err fault) h = lit≤ tt
 pub record Weights (readings : List Reading) (before after : List ℤ) (n : ℕ) : Type 0 where
   pub weighed : Weighed readings (take n after)
   pub rest : drop n after ≡ drop n before
-  pub small : All (λ w. nat_abs w ≤ 127) (take n after)
+  pub small : AllByRecursion (λ w. nat_abs w ≤ 127) (take n after)
 
 -- a row that holds still holds before other rows
 stays : (b : Bool) (here : Told) (later : Option Told) (found : Told) → Some found ≡ cond b (Some here) None → Some found ≡ cond b (Some here) later
@@ -31,7 +31,7 @@ module _ {C : Type 0} (reading : C → Reading) where
   as_read [] = refl
   as_read (cell ∷ cells) = ap (λ ws. weight_or_0 (reading cell) ∷ ws) (as_read cells)
 
-  all_small : ((cell : C) → InRange (reading cell)) → (cells : List C) → All (λ w. nat_abs w ≤ 127) (map (λ cell. weight_or_0 (reading cell)) cells)
+  all_small : ((cell : C) → InRange (reading cell)) → (cells : List C) → AllByRecursion (λ w. nat_abs w ≤ 127) (map (λ cell. weight_or_0 (reading cell)) cells)
   all_small range [] = tt
   all_small range (cell ∷ cells) = (or_zero_small (reading cell) (range cell), all_small range cells)
 
@@ -51,5 +51,5 @@ module _ {C : Type 0} (reading : C → Reading) where
       record {
         weighed = subst (Weighed (map reading cells)) (as_read cells ∙ sym front) (no_fault 0 (map reading cells) none);
         rest = ap (drop (length cells)) w ∙ drop_at ws (drop (length cells) before) (length cells) long;
-        small = subst (All (λ w. nat_abs w ≤ 127)) (sym front) (all_small range cells);
+        small = subst (AllByRecursion (λ w. nat_abs w ≤ 127)) (sym front) (all_small range cells);
       }

@@ -1,6 +1,6 @@
 -- The cost of a word under weights.
 use Rattle.std.specs.Prelude.{◌≡◌, ℕ, suc, ◌^◌, ◌≤◌, cond, not, List, map, length, ℤ, pos, negsuc, Some, Option, ◌==◌, nat_lt, slice_index, slice_index_or, unsigned_abs}
-use Rattle.std.specs.List.{AllByRecursion as All}
+use Rattle.std.specs.List.{AllByRecursion}
 use Rattle.polynomials.specs.Sums.{total}
 use Rattle.polynomials.specs.Words.{Table}
 use Rattle.words.specs.Refusals.{Told, row, byte_row}
@@ -41,4 +41,4 @@ CostIsDistance =
 
 -- with weights from -127 to 127 every word of at most 8 variables is within the radius 32,512
 abbrev pub WidestRadius : Type 0
-WidestRadius = (m : ℕ) (weights : List ℤ) (word : List ℕ) → m ≤ 8 → All (λ w. unsigned_abs w ≤ 127) weights → Within 32512 m weights word
+WidestRadius = (m : ℕ) (weights : List ℤ) (word : List ℕ) → m ≤ 8 → AllByRecursion (λ w. unsigned_abs w ≤ 127) weights → Within 32512 m weights word

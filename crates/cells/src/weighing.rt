@@ -1,6 +1,6 @@
 // The weights of a list of cells of any kind, or the first cell that has none.
 ghost use Rattle.std.specs.Prelude.{◌≡◌, ◌≤◌, ◌++◌, map, length, take, drop, IfOk, MatchResult, unsigned_abs};
-ghost use Rattle.std.specs.List.{AllByRecursion as All};
+ghost use Rattle.std.specs.List.{AllByRecursion};
 ghost use Rattle.words.specs.Refusals.{refusal_of};
 ghost use Rattle.cells.specs.Readings.{weight_or_0, cell_row, weigh_row, Weighed};
 
@@ -44,7 +44,7 @@ pub fn weigh<C: Cell>(cells: &[C], weights: &mut [i8]) -> Result<usize, Refusal>
     ensures refused { refusal_of result ≡ weigh_row (map C.Cell.reading cells.now) (length weights.old) }
     ensures written { MatchResult result (λ n. (n ≡ length cells.now) × Weighed (map C.Cell.reading cells.now) (take n weights.new) × (drop n weights.new ≡ drop n weights.old)) (λ _. weights.new ≡ weights.old) }
     ensures bound { IfOk result (λ n. n ≤ length weights.old) }
-    ensures small { IfOk result (λ n. All (λ w. unsigned_abs w ≤ 127) (take n weights.new)) }
+    ensures small { IfOk result (λ n. AllByRecursion (λ w. unsigned_abs w ≤ 127) (take n weights.new)) }
 {
     check_room(weights.len(), cells.len())?;
     check_cells(cells)?;

@@ -1,6 +1,6 @@
 -- `decimal` gives each number of 64 bits in decimal digits, and how many of them there are.
 use Rattle.std.proofs.Common.{◌≡◌, ℕ, ◌+◌, ◌/◌, ◌%◌, ◌^◌, ◌<◌, ◌≤◌, length, decimal, ap, ◌∙◌, inl, inr, arith, lit<, rules}
-use Rattle.std.specs.List.{AllByRecursion as All}
+use Rattle.std.specs.List.{AllByRecursion}
 use Rattle.std.proofs.lemmas.List.{length_push}
 use Rattle.std.proofs.lemmas.Str.Parse.{IsNumeralModel, numerals_by_fold}
 use Rattle.std.proofs.lemmas.Fmt.{decimal_digit, decimal_step, decimal_nonempty, length-decimal-le, digits_decimal, digits_value-decimal, first_decimal}
@@ -20,7 +20,7 @@ pub length_decimal_most : (n : ℕ) → n < 2 ^ 64 → length (decimal n) ≤ 20
 length_decimal_most n l = length-decimal-le 20 n (lit< tt) (omega arith) l
 
 -- the digits are those of the shelf, and so is the number that they say
-own : IsNumeralModel (λ ds. All (λ d. (48 ≤ d) × (d ≤ 57)) ds) (said 0)
+own : IsNumeralModel (λ ds. AllByRecursion (λ d. (48 ≤ d) × (d ≤ 57)) ds) (said 0)
 own = numerals_by_fold _ (search rules) said (search rules)
 
 pub decimals : Decimals

@@ -1,7 +1,7 @@
 -- Bits packed into bytes read back, and bytes whose unused bits are 0 are packed again as they were.
 use Rattle.std.proofs.Common.{◌≡◌, ℕ, zero, suc, ◌+◌, ◌-◌, ◌*◌, ◌/◌, ◌%◌, ◌^◌, ◌<◌, List, [], ◌∷◌, length, get_or, sym, ap, ◌∙◌, inl, inr, arith, below_none, below_more}
 use native.Mathlib.Nat.{zero-div}
-use Rattle.std.specs.List.{AllByRecursion as All, range_with_len}
+use Rattle.std.specs.List.{AllByRecursion, range_with_len}
 use Rattle.std.proofs.lemmas.Nat.{field_of, mod-pow-add}
 use Rattle.std.proofs.lemmas.List.{ext_get_or, get_or_past}
 use Rattle.std.proofs.ByRecursion.{All-get_or, All-map}
@@ -62,7 +62,7 @@ length_unpacked n bytes = length-map-range_with_len (λ i. bit_at (get_or bytes 
 pub unpacked_bits : (n : ℕ) (bytes : List ℕ) → Bits (unpacked n bytes)
 unpacked_bits n bytes = All-map (λ b. b < 2) (λ i. bit_at (get_or bytes (i / 8) 0) (i % 8)) (range_with_len 0 n) (go (range_with_len 0 n))
   where
-    go : (places : List ℕ) → All (λ i. bit_at (get_or bytes (i / 8) 0) (i % 8) < 2) places
+    go : (places : List ℕ) → AllByRecursion (λ i. bit_at (get_or bytes (i / 8) 0) (i % 8) < 2) places
     go [] = tt
     go (i ∷ places) = (omega arith, go places)
 
@@ -100,7 +100,7 @@ module _ (bits : List ℕ) (h : Bits bits) where
 
 -- ---- bytes out of bits
 
-module _ (n : ℕ) (bytes : List ℕ) (long : length bytes ≡ bytes_for n) (small : All (λ b. b < 256) bytes) (clean : unused n bytes ≡ 0) where
+module _ (n : ℕ) (bytes : List ℕ) (long : length bytes ≡ bytes_for n) (small : AllByRecursion (λ b. b < 256) bytes) (clean : unused n bytes ≡ 0) where
   bit_unpacked : (j i : ℕ) → j < bytes_for n → i < 8 → get_or (unpacked n bytes) (8 * j + i) 0 ≡ bit_at (get_or bytes j 0) i
   bit_unpacked j i l p = elim (cases_lt (8 * j + i) n) [
     | inl k ↦

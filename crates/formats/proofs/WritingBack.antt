@@ -1,6 +1,6 @@
 -- An accepted patch file is one that is lawfully written: writing what it says over it is lawful, and changes no byte.
 use Rattle.std.proofs.Common.{◌≡◌, ℕ, ◌+◌, ◌/◌, ◌%◌, ◌^◌, ◌<◌, List, ◌∷◌, map, length, get_or, drop, None, sym, refl, ap, ◌∙◌, arith}
-use Rattle.std.specs.List.{AllByRecursion as All, range_with_len}
+use Rattle.std.specs.List.{AllByRecursion, range_with_len}
 use Rattle.std.proofs.lemmas.List.FromFn.{fill_by_all}
 use Rattle.std.proofs.ByRecursion.{All-get_or, All-take, All-drop}
 use Rattle.formats.specs.Putting.{over, part}
@@ -11,7 +11,7 @@ use Rattle.formats.proofs.Parts.{length_part, slice_index_part, over_part}
 use Rattle.formats.proofs.Packing.{length_unpacked, unpacked_bits, packed_unpacked}
 use Rattle.formats.proofs.Accepting.{Apart, placed_apart, Lawful, accepted_lawful}
 
-module _ (file : List ℕ) (small : All (λ b. b < 256) file) (accepted : patch_row file ≡ None) where
+module _ (file : List ℕ) (small : AllByRecursion (λ b. b < 256) file) (accepted : patch_row file ≡ None) where
   lawful : Lawful file
   lawful = accepted_lawful file accepted
 

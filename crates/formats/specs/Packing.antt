@@ -1,6 +1,6 @@
 -- Bits packed eight to a byte, the first in the highest bit.
 use Rattle.std.specs.Prelude.{◌≡◌, ℕ, ◌+◌, ◌-◌, ◌*◌, ◌/◌, ◌%◌, ◌^◌, ◌<◌, List, map, length, slice_index}
-use Rattle.std.specs.List.{range_with_len, AllByRecursion as All}
+use Rattle.std.specs.List.{range_with_len, AllByRecursion}
 use Rattle.polynomials.specs.Sums.{total}
 use Rattle.polynomials.specs.Messages.{Bits}
 
@@ -34,4 +34,4 @@ PackedUnpacks = (bits : List ℕ) → Bits bits → unpacked (length bits) (pack
 
 -- bytes whose unused bits are 0 are packed again from the bits that they hold
 abbrev pub UnpackedPacks : Type 0
-UnpackedPacks = (n : ℕ) (bytes : List ℕ) → length bytes ≡ bytes_for n → All (λ b. b < 256) bytes → unused n bytes ≡ 0 → packed (unpacked n bytes) ≡ bytes
+UnpackedPacks = (n : ℕ) (bytes : List ℕ) → length bytes ≡ bytes_for n → AllByRecursion (λ b. b < 256) bytes → unused n bytes ≡ 0 → packed (unpacked n bytes) ≡ bytes

@@ -1,6 +1,6 @@
 -- A patch file as it is written, and that it reads back.
 use Rattle.std.specs.Prelude.{◌≡◌, ℕ, ◌/◌, ◌%◌, ◌^◌, ◌<◌, ◌≤◌, true, List, [], ◌∷◌, length, None}
-use Rattle.std.specs.List.{AllByRecursion as All}
+use Rattle.std.specs.List.{AllByRecursion}
 use Rattle.polynomials.specs.Words.{Table}
 use Rattle.formats.specs.Putting.{over}
 use Rattle.formats.specs.Packing.{bytes_for, packed, unpacked}
@@ -41,6 +41,6 @@ WrittenReadsBack =
 -- a file that is accepted is one that is lawfully written: writing what it says over it is lawful, and changes no byte
 abbrev pub ReadWritesBack : Type 0
 ReadWritesBack =
-    (file : List ℕ) → All (λ b. b < 256) file → patch_row file ≡ None
+    (file : List ℕ) → AllByRecursion (λ b. b < 256) file → patch_row file ≡ None
     → Writable file (variables file) (order file) (radius file) (unpacked (2 ^ variables file) (cell_bytes file)) (place_of_cells file) (name_bytes file) (place_of_name file)
     × (written file (variables file) (order file) (radius file) (unpacked (2 ^ variables file) (cell_bytes file)) (place_of_cells file) (name_bytes file) (place_of_name file) ≡ file)

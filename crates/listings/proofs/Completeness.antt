@@ -1,6 +1,6 @@
 -- The messages, the prefixes and the listing are complete: each has what it should, nothing else, and each once.
 use Rattle.std.proofs.Common.{◌≡◌, ℕ, zero, suc, ◌<◌, ◌≤◌, leb, List, [], ◌∷◌, ◌++◌, map, length, ℤ, sym, refl, ap, ◌∙◌, subst, inl, inr, arith}
-use Rattle.std.specs.List.{AllByRecursion as All}
+use Rattle.std.specs.List.{AllByRecursion}
 use Rattle.std.proofs.ByRecursion.{All-append, All-map, All-weaker}
 use Rattle.std.proofs.lemmas.Bool.{leb-true, le-leb}
 use Rattle.polynomials.specs.Binomials.{dimension}
@@ -37,12 +37,12 @@ prefix_in (suc k) (suc zero ∷ v) bits short =
     inr (in_append_right _ (map (λ v. 0 ∷ v) (prefixes k)) _ (in_map (λ v. 1 ∷ v) v (prefixes k) (prefix_in k v bits.1 (omega arith))))
 prefix_in (suc k) (suc (suc b) ∷ v) bits short = absurd (omega (arith, bits.0))
 
-pub prefixes_sized : (k : ℕ) → All (λ v. Bits v × (length v ≤ k)) (prefixes k)
+pub prefixes_sized : (k : ℕ) → AllByRecursion (λ v. Bits v × (length v ≤ k)) (prefixes k)
 prefixes_sized zero = ((tt, omega arith), tt)
 prefixes_sized (suc k) =
     ((tt, omega arith), All-append _ _ _ (half 0 (omega arith) (prefixes_sized k)) (half 1 (omega arith) (prefixes_sized k)))
   where
-    half : (b : ℕ) → b < 2 → All (λ v. Bits v × (length v ≤ k)) (prefixes k) → All (λ v. Bits v × (length v ≤ suc k)) (map (λ v. b ∷ v) (prefixes k))
+    half : (b : ℕ) → b < 2 → AllByRecursion (λ v. Bits v × (length v ≤ k)) (prefixes k) → AllByRecursion (λ v. Bits v × (length v ≤ suc k)) (map (λ v. b ∷ v) (prefixes k))
     half b h all = All-map _ _ _ (All-weaker _ _ (λ v p. ((h, p.0), omega (arith, p.1))) _ all)
 
 once_under_bit : (b : ℕ) (vs : List (List ℕ)) → Once vs → Once (map (λ v. b ∷ v) vs)

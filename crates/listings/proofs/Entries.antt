@@ -1,6 +1,6 @@
 -- What it means that a prefix is entered; and a rule that is nowhere lower enters no more.
 use Rattle.std.proofs.Common.{◌≡◌, ℕ, zero, suc, ◌<◌, ◌≤◌, Bool, true, false, cond, ◌&&◌, leb, List, [], ◌∷◌, map, length, take, filter, sym, refl, ap, ◌∙◌, inl, inr, arith}
-use Rattle.std.specs.List.{AllByRecursion as All, list_all}
+use Rattle.std.specs.List.{AllByRecursion, list_all}
 use Rattle.std.proofs.ByRecursion.{All-map, All-weaker}
 use Rattle.std.proofs.lemmas.Bool.{true≢false, leb-true, le-leb, and_parts, and_from, or_cases, or_left, or_right}
 use Rattle.polynomials.specs.Binomials.{dimension}
@@ -81,7 +81,7 @@ entered_means m r weights T rule last found v = (means, meant)
 
 -- ---- where estimates are nowhere lower
 
-kept_fewer : {X : Type 0} (p q : X → Bool) (xs : List X) → All (λ x. p x ≡ true → q x ≡ true) xs → length (filter p xs) ≤ length (filter q xs)
+kept_fewer : {X : Type 0} (p q : X → Bool) (xs : List X) → AllByRecursion (λ x. p x ≡ true → q x ≡ true) xs → length (filter p xs) ≤ length (filter q xs)
 kept_fewer p q [] h = omega arith
 kept_fewer p q (x ∷ xs) h = by_tests (p x) (q x) h.0 (kept_fewer p q xs h.1)
   where
@@ -92,13 +92,13 @@ kept_fewer p q (x ∷ xs) h = by_tests (p x) (q x) h.0 (kept_fewer p q xs h.1)
     by_tests false true i l = omega arith
     by_tests false false i l = l
 
-all_pass_too : {X : Type 0} (p q : X → Bool) (xs : List X) → All (λ x. p x ≡ true → q x ≡ true) xs → list_all p xs ≡ true → list_all q xs ≡ true
+all_pass_too : {X : Type 0} (p q : X → Bool) (xs : List X) → AllByRecursion (λ x. p x ≡ true → q x ≡ true) xs → list_all p xs ≡ true → list_all q xs ≡ true
 all_pass_too p q [] h pass = refl
 all_pass_too p q (x ∷ xs) h pass =
     let both = and_parts (p x) (list_all p xs) pass in
     and_from (q x) (list_all q xs) (h.0 both.0) (all_pass_too p q xs h.1 both.1)
 
-beginnings_sized : (v : List ℕ) → Bits v → All (λ u. Bits u × (length u < length v)) (beginnings v)
+beginnings_sized : (v : List ℕ) → Bits v → AllByRecursion (λ u. Bits u × (length u < length v)) (beginnings v)
 beginnings_sized [] b = tt
 beginnings_sized (a ∷ v) b =
     ((tt, omega arith), All-map _ _ _ (All-weaker _ _ (λ u p. ((b.0, p.0), omega (arith, p.1))) _ (beginnings_sized v b.1)))

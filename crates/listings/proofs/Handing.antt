@@ -1,7 +1,7 @@
 -- One message after another is handed out of those within a radius: what is left of them, what follows the last one, and the next one.
 use Rattle.std.proofs.Common.{◌≡◌, ℕ, true, false, not, eqb, List, [], ◌∷◌, ◌++◌, reverse, Some, filter, sym, refl, ap, ◌∙◌, subst, ap₂, inl, inr, append_assoc, arith}
 use mathlib.Core.List.{reverse_aux, reverse-cons, reverse-reverse}
-use Rattle.std.specs.List.{AllByRecursion as All}
+use Rattle.std.specs.List.{AllByRecursion}
 use Rattle.std.proofs.lemmas.List.Elements.{filter-append}
 use Rattle.std.proofs.ByRecursion.{All-weaker}
 use Rattle.std.proofs.lemmas.Bool.{true≢false, eqb-true, eq-eqb, and_parts, and_from, or_left, or_right, or_from, cases_Bool}
@@ -14,11 +14,11 @@ use Rattle.listings.proofs.Ordering.{earlier_not_itself, earlier_one_way, within
 
 -- ---- of a list in order, what stands in front is earlier than what stands behind
 
-in_front_earlier : (xs ys : List (List ℕ)) → Ordered (xs ++ ys) → All (λ x. All (λ y. earlier x y ≡ true) ys) xs
+in_front_earlier : (xs ys : List (List ℕ)) → Ordered (xs ++ ys) → AllByRecursion (λ x. AllByRecursion (λ y. earlier x y ≡ true) ys) xs
 in_front_earlier [] ys o = tt
 in_front_earlier (x ∷ xs) ys o = (behind xs o.0, in_front_earlier xs ys o.1)
   where
-    behind : (xs : List (List ℕ)) → All (λ y. earlier x y ≡ true) (xs ++ ys) → All (λ y. earlier x y ≡ true) ys
+    behind : (xs : List (List ℕ)) → AllByRecursion (λ y. earlier x y ≡ true) (xs ++ ys) → AllByRecursion (λ y. earlier x y ≡ true) ys
     behind [] h = h
     behind (z ∷ zs) h = behind zs h.1
 
@@ -26,14 +26,14 @@ ordered_behind : (xs ys : List (List ℕ)) → Ordered (xs ++ ys) → Ordered ys
 ordered_behind [] ys o = o
 ordered_behind (x ∷ xs) ys o = ordered_behind xs ys o.1
 
-all_reverse : {X : Type 0} (P : X → Type 0) (xs : List X) → All P xs → All P (reverse xs)
+all_reverse : {X : Type 0} (P : X → Type 0) (xs : List X) → AllByRecursion P xs → AllByRecursion P (reverse xs)
 all_reverse P xs h = onto xs [] h tt
   where
-    onto : (xs ys : List _) → All P xs → All P ys → All P (reverse_aux xs ys)
+    onto : (xs ys : List _) → AllByRecursion P xs → AllByRecursion P ys → AllByRecursion P (reverse_aux xs ys)
     onto [] ys h i = i
     onto (x ∷ xs) ys h i = onto xs (x ∷ ys) h.1 (h.0, i)
 
-all_swapped : {X : Type 0} (R : X → X → Type 0) (xs ys : List X) → All (λ x. All (λ y. R x y) ys) xs → All (λ y. All (λ x. R x y) xs) ys
+all_swapped : {X : Type 0} (R : X → X → Type 0) (xs ys : List X) → AllByRecursion (λ x. AllByRecursion (λ y. R x y) ys) xs → AllByRecursion (λ y. AllByRecursion (λ x. R x y) xs) ys
 all_swapped R xs [] h = tt
 all_swapped R xs (y ∷ ys) h = (All-weaker _ _ (λ x r. r.0) xs h, all_swapped R xs ys (All-weaker _ _ (λ x r. r.1) xs h))
 
@@ -58,11 +58,11 @@ earlier_differ v w h =
       | inr differ ↦ differ
     ]
 
-all_among : (ws : List (List ℕ)) → All (λ w. among ws w ≡ true) ws
+all_among : (ws : List (List ℕ)) → AllByRecursion (λ w. among ws w ≡ true) ws
 all_among [] = tt
 all_among (w ∷ ws) = (or_left _ _ (equal_itself w), All-weaker _ _ (λ v h. or_right (equal w v) _ h) ws (all_among ws))
 
-later_not_among : (ws : List (List ℕ)) (w : List ℕ) → All (λ v. earlier v w ≡ true) ws → among ws w ≡ false
+later_not_among : (ws : List (List ℕ)) (w : List ℕ) → AllByRecursion (λ v. earlier v w ≡ true) ws → among ws w ≡ false
 later_not_among [] w h = refl
 later_not_among (v ∷ vs) w h = or_from _ _ (earlier_differ v w h.0) (later_not_among vs w h.1)
 
@@ -74,9 +74,9 @@ remaining_ordered handed rest o =
     (all_reverse _ handed (All-weaker _ _ (λ w h. ap not h) handed (all_among handed)))
     (All-weaker _ _ (λ w h. ap not (later_not_among handed w h)) rest (all_swapped (λ v w. earlier v w ≡ true) handed rest front))
   where
-    front : All (λ v. All (λ w. earlier v w ≡ true) rest) handed
+    front : AllByRecursion (λ v. AllByRecursion (λ w. earlier v w ≡ true) rest) handed
     front =
-        subst (All (λ v. All (λ w. earlier v w ≡ true) rest)) (reverse-reverse handed)
+        subst (AllByRecursion (λ v. AllByRecursion (λ w. earlier v w ≡ true) rest)) (reverse-reverse handed)
         (all_reverse _ (reverse handed) (in_front_earlier (reverse handed) rest o))
 
 behind_follows : (xs : List (List ℕ)) (w : List ℕ) (ys : List (List ℕ)) → Ordered (xs ++ w ∷ ys) → filter (earlier w) (xs ++ w ∷ ys) ≡ ys

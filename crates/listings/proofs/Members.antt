@@ -1,6 +1,6 @@
 -- What stands in joined, mapped and filtered lists, and what stands there once.
 use Rattle.std.proofs.Common.{◌≡◌, ℕ, Bool, true, false, cond, ◌⊎◌, List, [], ◌∷◌, ◌++◌, map, filter, sym, refl, ap, ◌∙◌, subst, inl, inr}
-use Rattle.std.specs.List.{AllByRecursion as All}
+use Rattle.std.specs.List.{AllByRecursion}
 use Rattle.std.proofs.lemmas.Bool.{true≢false}
 use Rattle.polynomials.specs.Messages.{earlier}
 use Rattle.listings.specs.Laws.{In, Once, Ordered}
@@ -21,7 +21,7 @@ module _ {X : Type 0} where
   in_append_cases x (y ∷ xs) ys (inl e) = inl (inl e)
   in_append_cases x (y ∷ xs) ys (inr h) = elim (in_append_cases x xs ys h) [ inl i ↦ inl (inr i) | inr i ↦ inr i ]
 
-  pub all_in : (P : X → Type 0) (x : X) (xs : List X) → All P xs → In x xs → P x
+  pub all_in : (P : X → Type 0) (x : X) (xs : List X) → AllByRecursion P xs → In x xs → P x
   all_in P x [] all h = absurd h
   all_in P x (y ∷ xs) all (inl e) = subst P (sym e) all.0
   all_in P x (y ∷ xs) all (inr h) = all_in P x xs all.1 h
@@ -62,7 +62,7 @@ module _ {X : Type 0} where
     map_in y (x ∷ xs) (inr h) = let found = map_in y xs h in (found.0, inr found.1, found.2)
 
     -- a map that tells apart all that pass a test keeps each once
-    pub once_map : (P : X → Type 0) → ((x y : X) → P x → P y → f x ≡ f y → x ≡ y) → (xs : List X) → All P xs → Once xs → Once (map f xs)
+    pub once_map : (P : X → Type 0) → ((x y : X) → P x → P y → f x ≡ f y → x ≡ y) → (xs : List X) → AllByRecursion P xs → Once xs → Once (map f xs)
     once_map P apart [] all o = tt
     once_map P apart (x ∷ xs) all o = (
       λ h. let found = map_in (f x) xs h in

@@ -1,6 +1,6 @@
 -- The messages of k bits stand in order, each of them k bits, and so do those within a radius.
 use Rattle.std.proofs.Common.{◌≡◌, ℕ, zero, suc, ◌<◌, Bool, true, false, cond, eqb, ltb, leb, List, [], ◌∷◌, ◌++◌, map, length, filter, sym, refl, ap, ◌∙◌, inl, inr, arith}
-use Rattle.std.specs.List.{AllByRecursion as All}
+use Rattle.std.specs.List.{AllByRecursion}
 use Rattle.std.proofs.ByRecursion.{All-append, All-map, All-weaker, all_kept_by}
 use Rattle.std.proofs.lemmas.Bool.{true≢false, eq-eqb, ne_eqb, ltb-true, le-ltb, cond-true, cond-false, cases_eq}
 use Rattle.polynomials.specs.Messages.{Bits, earlier}
@@ -34,7 +34,7 @@ earlier_one_way (a ∷ x) (b ∷ y) h =
 
 -- ---- lists in order
 
-ordered_append : (xs ys : List (List ℕ)) → Ordered xs → Ordered ys → All (λ x. All (λ y. earlier x y ≡ true) ys) xs → Ordered (xs ++ ys)
+ordered_append : (xs ys : List (List ℕ)) → Ordered xs → Ordered ys → AllByRecursion (λ x. AllByRecursion (λ y. earlier x y ≡ true) ys) xs → Ordered (xs ++ ys)
 ordered_append [] ys ox oy h = oy
 ordered_append (x ∷ xs) ys ox oy h = (All-append _ _ _ ox.0 h.0, ordered_append xs ys ox.1 oy h.1)
 
@@ -60,15 +60,15 @@ messages_ordered (suc k) =
     (ordered_under_bit 0 (messages k) (messages_ordered k)) (ordered_under_bit 1 (messages k) (messages_ordered k))
     (All-map _ _ _ (all_of _ (λ x. All-map (λ y. earlier (0 ∷ x) y ≡ true) (λ w. 1 ∷ w) (messages k) (all_of _ (λ y. refl) (messages k))) (messages k)))
 
-pub messages_sized : (k : ℕ) → All (λ w. Bits w × (length w ≡ k)) (messages k)
+pub messages_sized : (k : ℕ) → AllByRecursion (λ w. Bits w × (length w ≡ k)) (messages k)
 messages_sized zero = ((tt, refl), tt)
 messages_sized (suc k) = All-append _ _ _ (half 0 (omega arith) (messages_sized k)) (half 1 (omega arith) (messages_sized k))
   where
-    half : (b : ℕ) → b < 2 → All (λ w. Bits w × (length w ≡ k)) (messages k) → All (λ w. Bits w × (length w ≡ suc k)) (map (λ w. b ∷ w) (messages k))
+    half : (b : ℕ) → b < 2 → AllByRecursion (λ w. Bits w × (length w ≡ k)) (messages k) → AllByRecursion (λ w. Bits w × (length w ≡ suc k)) (map (λ w. b ∷ w) (messages k))
     half b h all = All-map _ _ _ (All-weaker _ _ (λ w p. ((h, p.0), ap suc p.1)) _ all)
 
 pub within_ordered : (k : ℕ) (price : List ℕ → ℕ) (T : ℕ) → Ordered (within k price T)
 within_ordered k price T = ordered_kept (λ w. leb (price w) T) (messages k) (messages_ordered k)
 
-pub within_sized : (k : ℕ) (price : List ℕ → ℕ) (T : ℕ) → All (λ w. Bits w × (length w ≡ k)) (within k price T)
+pub within_sized : (k : ℕ) (price : List ℕ → ℕ) (T : ℕ) → AllByRecursion (λ w. Bits w × (length w ≡ k)) (within k price T)
 within_sized k price T = all_kept_by (λ w. leb (price w) T) _ (messages k) (messages_sized k)

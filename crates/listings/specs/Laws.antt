@@ -1,6 +1,6 @@
 -- What the listing and the entered prefixes are, in words of messages, words and prefixes.
 use Rattle.std.specs.Prelude.{◌≡◌, ℕ, ◌<◌, ◌≤◌, Bool, true, false, ◌⊎◌, ◌↔◌, List, [], ◌∷◌, map, length, take, ℤ, Option}
-use Rattle.std.specs.List.{AllByRecursion as All}
+use Rattle.std.specs.List.{AllByRecursion}
 use Rattle.polynomials.specs.Binomials.{dimension}
 use Rattle.polynomials.specs.Messages.{Bits, Message, earlier}
 use Rattle.polynomials.specs.Words.{word_of, Encodes}
@@ -23,7 +23,7 @@ Once (x ∷ xs) = (In x xs → ⊥) × Once xs
 -- each is earlier than all that stand behind it
 abbrev pub Ordered : List (List ℕ) → Type 0
 Ordered [] = Unit {0}
-Ordered (x ∷ xs) = All (λ y. earlier x y ≡ true) xs × Ordered xs
+Ordered (x ∷ xs) = AllByRecursion (λ y. earlier x y ≡ true) xs × Ordered xs
 
 -- the listing has every message whose word is within T, and no other, in prefix order; so it has every word of order r within T, and each once
 abbrev pub ListingComplete : Type 0

@@ -1,11 +1,11 @@
 -- Messages: the coefficients of a polynomial in prefix order.
 use Rattle.std.specs.Prelude.{◌≡◌, ℕ, ◌<◌, Bool, false, cond, List, [], ◌∷◌, length, ◌==◌, nat_lt}
-use Rattle.std.specs.List.{AllByRecursion as All}
+use Rattle.std.specs.List.{AllByRecursion}
 use Rattle.polynomials.specs.Binomials.{dimension}
 
 -- each byte is 0 or 1
 abbrev pub Bits : List ℕ → Type 0
-Bits bytes = All (λ b. b < 2) bytes
+Bits bytes = AllByRecursion (λ b. b < 2) bytes
 
 -- a message of order r in m variables: a bit for each admitted monomial
 pub record Message (m r : ℕ) (message : List ℕ) : Type 0 where

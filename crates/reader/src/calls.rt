@@ -7,7 +7,7 @@ ghost use Rattle.runs.specs.Answers.{done_or};
 ghost use Rattle.runs.specs.Rows.{set_row, radius_row, load_row, rewind_row};
 ghost use Rattle.runs.specs.CallLaws.{SetLaw, RadiusLaw, LoadLaw, RewindLaw};
 ghost use Rattle.runs.specs.States.{LedTo, set_to, with_radius, with_weights, rewound};
-ghost use Rattle.runs.specs.States.{new as newState};
+ghost use Rattle.runs.specs.States.{new as new_state};
 ghost use Rattle.reader.specs.Views.{view};
 
 use crate::state::Reader;
@@ -20,7 +20,7 @@ const WIDEST: u32 = 32_512;
 impl Reader {
     // A reader that is not set.
     pub fn new() -> Reader
-        ensures state { view result ≡ newState }
+        ensures state { view result ≡ new_state }
         ensures history { LedTo [] (view result) }
     {
         Reader {

@@ -1,6 +1,6 @@
 -- Each call leads a reader on: where it stood as a run had led it, it stands as the longer run leads it, and next obeys its law.
 use Rattle.std.proofs.Common.{◌≡◌, ℕ, ◌≤◌, true, false, List, [], ◌∷◌, ◌++◌, map, reverse, length, take, drop, ℤ, Some, None, Ok, filter, Option, sym, refl, ap, ◌∙◌, subst, ap₂, arith}
-use Rattle.std.specs.List.{AllByRecursion as All}
+use Rattle.std.specs.List.{AllByRecursion}
 use Rattle.std.proofs.lemmas.List.{take_at}
 use Rattle.std.proofs.ByRecursion.{all_kept_by}
 use Rattle.polynomials.specs.Binomials.{dimension}
@@ -101,7 +101,7 @@ module _ (h : Trace) (s : State) (l : LedTo h s) (shape : Shape) (ws : List ℤ)
   pub found_sized : (w : List ℕ) → found ≡ Some w → Bits w × (length w ≡ dimension m r)
   found_sized w e = first_all (filter (follows s.last) (listing m r ws s.radius)) (all_kept_by _ _ _ (within_sized (dimension m r) (cost_of m r ws) s.radius)) e
     where
-      first_all : (xs : List (List ℕ)) → All (λ v. Bits v × (length v ≡ dimension m r)) xs → first xs ≡ Some w → Bits w × (length w ≡ dimension m r)
+      first_all : (xs : List (List ℕ)) → AllByRecursion (λ v. Bits v × (length v ≡ dimension m r)) xs → first xs ≡ Some w → Bits w × (length w ≡ dimension m r)
       first_all [] a f = let z : ◌≡◌ {A = ℕ} 0 1 = cc in absurd (omega arith)
       first_all (x ∷ xs) a f = let same : x ≡ w = cc in subst (λ v. Bits v × (length v ≡ dimension m r)) same a.0
 
