@@ -12,7 +12,7 @@ two n later = n / 256 ∷ n % 256 ∷ later
 
 -- the twelve bytes of the header
 abbrev pub header : ℕ → ℕ → ℕ → ℕ → ℕ → ℕ → ℕ → List ℕ
-header m r T count place_of_cells length_of_name place_of_name = m ∷ r ∷ two T (two count (two place_of_cells (two length_of_name (two place_of_name []))))
+header m r T count cells_place name_length name_place = m ∷ r ∷ two T (two count (two cells_place (two name_length (two name_place []))))
 
 -- the patch written over some bytes, its cells and its name at these places
 abbrev pub written : List ℕ → ℕ → ℕ → ℕ → List ℕ → ℕ → List ℕ → ℕ → List ℕ

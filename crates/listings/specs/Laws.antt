@@ -1,5 +1,5 @@
 -- What the listing and the entered prefixes are, in words of messages, words and prefixes.
-use Rattle.std.specs.Prelude.{◌≡◌, ℕ, ◌<◌, ◌≤◌, Bool, true, false, ◌⊎◌, ◌↔◌, List, [], ◌∷◌, map, length, take, ℤ, Option}
+use Rattle.std.specs.Prelude.{◌≡◌, ℕ, ◌<◌, ◌≤◌, true, ◌⊎◌, ◌↔◌, List, [], ◌∷◌, map, length, take, ℤ, Option}
 use Rattle.std.specs.List.{AllByRecursion}
 use Rattle.polynomials.specs.Binomials.{dimension}
 use Rattle.polynomials.specs.Messages.{Bits, Message, earlier}

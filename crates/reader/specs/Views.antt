@@ -1,6 +1,5 @@
 -- What a reader holds, apart from how it holds it.
 use Rattle.std.specs.Prelude.{◌^◌, cond, take, Some, None}
-use Rattle.runs.specs.Traces.{Shape}
 use Rattle.runs.specs.States.{State}
 use Rattle.reader.specs.declared.state.Reader.{Reader}
 

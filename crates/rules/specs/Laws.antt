@@ -1,8 +1,8 @@
 -- What holds of the rules, for every number of variables, every order, all weights and every prefix.
-use Rattle.std.specs.Prelude.{◌≡◌, ℕ, ◌+◌, ◌*◌, ◌^◌, ◌<◌, ◌≤◌, true, ◌↔◌, List, [], length, drop, ℤ, filter, nat_le}
+use Rattle.std.specs.Prelude.{◌≡◌, ℕ, ◌+◌, ◌*◌, ◌^◌, ◌≤◌, true, List, [], length, drop, ℤ, filter, nat_le}
 use Rattle.polynomials.specs.Monomials.{monomials}
 use Rattle.rules.specs.Rules.{answerable}
-use Rattle.rules.specs.Facets.{upper, open_digits, sizes, folded_sizes, facet}
+use Rattle.rules.specs.Facets.{open_digits, sizes, folded_sizes, facet}
 
 -- the half that facet answers is whole: twice the number and the folded sizes make up the sizes
 abbrev pub FacetHalvesEvenly : Type 0

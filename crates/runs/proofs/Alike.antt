@@ -1,5 +1,5 @@
 -- Lawful runs with the same calls, apart from estimates, answer alike, apart from counts; and a rule that is nowhere lower enters and counts no more.
-use Rattle.std.proofs.Common.{◌≡◌, ℕ, ◌≤◌, Bool, true, false, cond, List, [], ◌∷◌, map, length, ℤ, Some, None, Option, sym, refl, ap, ◌∙◌, subst, ap₂, inl, inr, arith}
+use Rattle.std.proofs.Common.{◌≡◌, ℕ, ◌≤◌, true, false, cond, List, [], ◌∷◌, map, length, ℤ, Some, None, Option, sym, refl, ap, ◌∙◌, subst, ap₂, inl, inr, arith}
 use Rattle.polynomials.specs.Binomials.{dimension}
 use Rattle.words.specs.Refusals.{Told}
 use Rattle.rules.specs.Rules.{Rule}
@@ -9,8 +9,8 @@ use Rattle.listings.proofs.Entries.{fewer_entered}
 use Rattle.runs.specs.Traces.{Shape, Call, set_call, radius_call, load_call, rewind_call, next_call, Answer, refused, done, listed, waiting, Event, event, Trace, accepted, shape_after, shape_of, radius_after, radius_of, weights_after, weights_of, message_in, handed_by, handed_after, handed_of}
 use Rattle.runs.specs.CallLaws.{next_new, NextLaw}
 use Rattle.runs.specs.Law.{LawOf, Law}
-use Rattle.runs.specs.Alike.{call_apart, told_apart, answer_apart, call_of, event_apart, rule_of, count_told, count_in, FewerAt, Fewer, Alike}
-use Rattle.runs.proofs.Choosing.{Ready, row_or_ready}
+use Rattle.runs.specs.Alike.{call_apart, told_apart, answer_apart, call_of, event_apart, rule_of, count_told, count_in, FewerAt, Alike}
+use Rattle.runs.proofs.Choosing.{row_or_ready}
 
 -- ---- what is in force can be told from a run apart from its estimates and counts
 

@@ -1,5 +1,5 @@
 -- At next a row holds, or the reader has sizes, cells and room enough: never both, never neither.
-use Rattle.std.proofs.Common.{◌≡◌, ℕ, ◌≤◌, ◌⊎◌, List, ℤ, Some, None, Option, refl, inl, inr, arith}
+use Rattle.std.proofs.Common.{◌≡◌, ℕ, ◌≤◌, ◌⊎◌, List, ℤ, Some, None, Option, refl, inl, inr}
 use Rattle.std.proofs.lemmas.Bool.{cases_lt, lt-ltb, le-ltb, cond-true, cond-false}
 use Rattle.polynomials.specs.Binomials.{dimension}
 use Rattle.words.specs.Refusals.{Told, row}

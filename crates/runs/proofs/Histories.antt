@@ -1,12 +1,12 @@
 -- After any run that has led to a reader, a call that answers and leaves behind what it should obeys its law, and the longer run leads to what is left.
-use Rattle.std.proofs.Common.{◌≡◌, ℕ, ◌≤◌, List, [], ◌∷◌, map, length, ℤ, Some, None, Ok, Err, Option, Result, sym, refl, ap, ◌∙◌, subst, ap₂, inl, inr, arith, MatchResult}
+use Rattle.std.proofs.Common.{◌≡◌, ℕ, ◌≤◌, List, [], ◌∷◌, length, ℤ, Some, None, Ok, Err, Option, Result, sym, ap, ◌∙◌, subst, ap₂, inl, inr, arith, MatchResult}
 use Rattle.polynomials.specs.Binomials.{dimension}
 use Rattle.words.specs.Refusals.{Told, told, refusal_of}
 use Rattle.words.specs.declared.refusals.Refusal.{Refusal}
 use Rattle.cells.specs.Readings.{Reading, Weighed}
 use Rattle.rules.specs.Rules.{Rule}
 use Rattle.listings.specs.Listing.{Telling}
-use Rattle.runs.specs.Traces.{Shape, Call, set_call, radius_call, load_call, rewind_call, next_call, Answer, refused, done, listed, event, Trace, shape_of, radius_of, weights_of, handed_of}
+use Rattle.runs.specs.Traces.{Shape, Call, set_call, radius_call, load_call, rewind_call, next_call, refused, done, listed, event, Trace, shape_of, radius_of, weights_of, handed_of}
 use Rattle.runs.specs.Answers.{answered, done_or}
 use Rattle.runs.specs.Rows.{set_row, radius_row, load_row, rewind_row, next_row}
 use Rattle.runs.specs.CallLaws.{settled, SetLaw, RadiusLaw, LoadLaw, RewindLaw, NextLaw}

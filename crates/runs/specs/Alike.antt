@@ -67,17 +67,17 @@ EntersAfter h shape weights rule v =
 -- where an accepted next after this run brings a rule that is nowhere lower than that of another, it enters no prefix that the other does not enter, and
 -- its count is no higher
 abbrev pub FewerAt : Trace → Call → Answer → Call → Answer → Type 0
-FewerAt h call answer other-call other-answer =
-    (rule other : Rule) → rule_of call ≡ Some rule → rule_of other-call ≡ Some other → accepted answer ≡ true
+FewerAt h call answer other_call other_answer =
+    (rule other : Rule) → rule_of call ≡ Some rule → rule_of other_call ≡ Some other → accepted answer ≡ true
     → (shape : Shape) (weights : List ℤ) → shape_of h ≡ Some shape → weights_of h ≡ Some weights → NowhereLower shape.m shape.r weights rule other
     → ((v : List ℕ) → Bits v → length v ≤ dimension shape.m shape.r → EntersAfter h shape weights rule v → EntersAfter h shape weights other v)
-    × (count_in answer ≤ count_in other-answer)
+    × (count_in answer ≤ count_in other_answer)
 
 -- the same of each event of a run and its counterpart in another
 abbrev pub Fewer : Trace → Trace → Type 0
 Fewer [] k = Unit {0}
 Fewer (e ∷ h) [] = Unit {0}
-Fewer (event call answer after ∷ h) (event other-call other-answer other_After ∷ k) = FewerAt h call answer other-call other-answer × Fewer h k
+Fewer (event call answer after ∷ h) (event other_call other_answer other_after ∷ k) = FewerAt h call answer other_call other_answer × Fewer h k
 
 -- every lawful run with the same calls, apart from estimates, answers alike, apart from counts; and where the estimate of one is nowhere lower, that one
 -- enters no more prefixes and counts no more

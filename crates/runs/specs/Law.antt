@@ -1,5 +1,5 @@
 -- The law over runs: every event is as the law of its call asks, with what the events before it have put in force.
-use Rattle.std.specs.Prelude.{◌≡◌, List, [], ◌∷◌}
+use Rattle.std.specs.Prelude.{◌≡◌, [], ◌∷◌}
 use Rattle.runs.specs.Traces.{Trace, Event, event, set_call, radius_call, load_call, rewind_call, next_call, shape_of, radius_of, weights_of, handed_of}
 use Rattle.runs.specs.CallLaws.{SetLaw, RadiusLaw, LoadLaw, RewindLaw, NextLaw}
 
