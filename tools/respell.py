@@ -6,6 +6,7 @@ usage: tools/respell.py [--list]     at the top of the repository; --list prints
 It reads the names that the files of specs/ and proofs/ declare, but for the answers and invariants of functions, whose names the check makes. It turns them
 in .antt and .rt files, in must-fail edits, and in docs where they stand between backquotes. Strings and comments keep their text, but for names between
 backquotes. A name that a file imports from a library keeps its spelling there. Where a new name would meet another name of the same file, it says so.
+Where a file calls the library's AllByRecursion by the name All, which the gate refuses, it gives it its own name again.
 """
 import collections
 import glob
@@ -25,8 +26,10 @@ BY_HAND = {
     "nameLength": "length_of_name",
     "cellsPlace": "cells_place",
     "namePlace": "name_place",
-    "getD-over-other": "slice_index_over_other",
-    "get_d_part": "slice_index_part",
+    "bytesFor": "bytes_needed",
+    "bit_at": "bit_from_top",
+    "getD-over-other": "get_or_over_other",
+    "get_d_part": "get_or_part",
     "in-float": "float_in",
     "word-pieces": "word_pieces_long",
     "room_row": "room_row_joined",
@@ -107,6 +110,9 @@ def main():
         for new, olds in coming.items():
             if new in tokens - set(here) or len(olds) > 1:
                 print(f"falls together: {path}: {', '.join(sorted(olds))} -> {new}")
+        if "AllByRecursion as All" in text:
+            text = text.replace("AllByRecursion as All", "AllByRecursion")
+            here["All"] = "AllByRecursion"
         new = turned(text, here, path.endswith((".rt", ".edit")))
         if new != text and "--try" not in sys.argv:
             open(path, "w", encoding="utf-8").write(new)

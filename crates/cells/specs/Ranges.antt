@@ -8,13 +8,16 @@ use Rattle.words.specs.declared.refusals.Fault.TheVariants.{Level, Levels}
 use Rattle.cells.specs.Readings.{Reading, InRange}
 use Rattle.cells.specs.Pixels.{pixel_reading}
 
+-- a reading that is one of two in range is in range
 by_test : (b : Bool) (x y : Reading) → InRange x → InRange y → InRange (cond b x y)
 by_test true x y p q = p
 by_test false x y p q = q
 
+-- two numbers up to 64, together, less 64
 small : (a b : ℕ) → a ≤ 64 → b ≤ 64 → unsigned_abs (pos (a + b) -ℤ pos 64) ≤ 127
 small a b p q = omega (arith, ints)
 
+-- the weight of every pixel that has one
 pub pixel_in_range : (darkest lightest : Float) → InRange (pixel_reading darkest lightest)
 pixel_in_range d l = by_test (is_nan d || is_nan l) _ _ tt (units (in_unit d) (in_unit l) refl refl)
   where

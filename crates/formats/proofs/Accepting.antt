@@ -2,7 +2,7 @@
 use Rattle.std.proofs.Common.{◌≡◌, ℕ, ◌+◌, ◌^◌, ◌≤◌, min, max, true, not, ◌&&◌, leb, List, length, None, ap, ◌∙◌}
 use Rattle.std.proofs.lemmas.Bool.{ltb-false, leb-true, eqb-true, le-ltb, le-leb, eq-eqb, and_parts, and_from, not-true, not-false, cond-false}
 use Rattle.polynomials.proofs.Choosing.{no_row}
-use Rattle.formats.specs.Packing.{bytes_for, unused}
+use Rattle.formats.specs.Packing.{bytes_needed, unused}
 use Rattle.formats.specs.Patch.{variables, order, radius, count, place_of_cells, length_of_name, place_of_name, cell_bytes, lies, share, placed, patch_row}
 
 -- what placed says of two sections
@@ -35,7 +35,7 @@ pub record Lawful (file : List ℕ) : Type 0 where
   pub low : order file ≤ variables file
   pub near : radius file ≤ 32512
   pub counted : count file ≡ 2 ^ variables file
-  pub sections : placed (length file) (place_of_cells file) (bytes_for (2 ^ variables file)) (place_of_name file) (length_of_name file) ≡ true
+  pub sections : placed (length file) (place_of_cells file) (bytes_needed (2 ^ variables file)) (place_of_name file) (length_of_name file) ≡ true
   pub clean : unused (2 ^ variables file) (cell_bytes file) ≡ 0
 
 pub lawful_accepted : (file : List ℕ) → Lawful file → patch_row file ≡ None

@@ -19,7 +19,7 @@ length_decimal_step n ten l = ap length (decimal_step n ten l) ∙ length_push (
 pub length_decimal_most : (n : ℕ) → n < 2 ^ 64 → length (decimal n) ≤ 20
 length_decimal_most n l = length-decimal-le 20 n (lit< tt) (omega arith) l
 
--- the digits are those of the shelf, and so is the number that they say
+-- the digits are those of the library, and so is the number that they say
 own : IsNumeralModel (λ ds. AllByRecursion (λ d. (48 ≤ d) × (d ≤ 57)) ds) (said 0)
 own = numerals_by_fold _ (search rules) said (search rules)
 

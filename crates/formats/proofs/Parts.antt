@@ -7,8 +7,8 @@ use Rattle.formats.proofs.Putting.{length_over}
 pub length_part : (place long : ℕ) (bytes : List ℕ) → place + long ≤ length bytes → length (part place long bytes) ≡ long
 length_part place long bytes fits = simp (length-take, length-drop) (omega arith)
 
-pub slice_index_part : (place long : ℕ) (bytes : List ℕ) (i : ℕ) → i < long → get_or (part place long bytes) i 0 ≡ get_or bytes (place + i) 0
-slice_index_part place long bytes i l = get_or-take long (drop place bytes) i 0 l ∙ get_or-drop place bytes i 0
+pub get_or_part : (place long : ℕ) (bytes : List ℕ) (i : ℕ) → i < long → get_or (part place long bytes) i 0 ≡ get_or bytes (place + i) 0
+get_or_part place long bytes i l = get_or-take long (drop place bytes) i 0 l ∙ get_or-drop place bytes i 0
 
 -- a part put over itself
 pub over_part : (place long : ℕ) (bytes : List ℕ) → place + long ≤ length bytes → over place (part place long bytes) bytes ≡ bytes
@@ -24,10 +24,10 @@ module _ (place : ℕ) (new bytes : List ℕ) (fits : place + length new ≤ len
       ap (take (length new)) (drop_at (take place bytes) (new ++ drop (place + length new) bytes) place (length-take-le place bytes (omega arith)))
       ∙ take_at new (drop (place + length new) bytes) (length new) refl
 
-  slice_index_over_other : (i : ℕ) → (i < place) ⊎ (place + length new ≤ i) → get_or (over place new bytes) i 0 ≡ get_or bytes i 0
-  slice_index_over_other i (inl l) =
+  get_or_over_other : (i : ℕ) → (i < place) ⊎ (place + length new ≤ i) → get_or (over place new bytes) i 0 ≡ get_or bytes i 0
+  get_or_over_other i (inl l) =
       get_or_append_left (take place bytes) _ 0 i (omega (arith, length-take place bytes)) ∙ get_or-take place bytes i 0 l
-  slice_index_over_other i (inr l) =
+  get_or_over_other i (inr l) =
       get_or-append_right (take place bytes) _ place i 0 (length-take-le place bytes (omega arith)) (omega arith)
       ∙ get_or-append_right new _ (length new) (i - place) 0 refl (omega arith)
       ∙ get_or-drop (place + length new) bytes (i - place - length new) 0
@@ -42,6 +42,6 @@ module _ (place : ℕ) (new bytes : List ℕ) (fits : place + length new ≤ len
       ext_get_or 0 (part from long (over place new bytes)) (part from long bytes) same
       (λ i l.
       let short : i < long = omega (arith, length-take long (drop from (over place new bytes))) in
-      slice_index_part from long (over place new bytes) i short
-      ∙ slice_index_over_other (from + i) (apart i short)
-      ∙ sym (slice_index_part from long bytes i short))
+      get_or_part from long (over place new bytes) i short
+      ∙ get_or_over_other (from + i) (apart i short)
+      ∙ sym (get_or_part from long bytes i short))

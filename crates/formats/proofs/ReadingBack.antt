@@ -4,7 +4,7 @@ use Rattle.std.proofs.lemmas.Nat.{pow_pos}
 use Rattle.std.proofs.lemmas.Bool.{cases_lt}
 use Rattle.polynomials.specs.Words.{Table}
 use Rattle.formats.specs.Putting.{over, part}
-use Rattle.formats.specs.Packing.{bytes_for, packed, unpacked, unused}
+use Rattle.formats.specs.Packing.{bytes_needed, packed, unpacked, unused}
 use Rattle.formats.specs.Patch.{placed, place_of_cells, length_of_name, place_of_name, cell_bytes, name_bytes, Says}
 use Rattle.formats.specs.Writing.{header, WrittenReadsBack}
 use Rattle.formats.proofs.Putting.{length_over}
@@ -13,9 +13,9 @@ use Rattle.formats.proofs.Packing.{length_packed, unpacked_packed, unused_packed
 use Rattle.formats.proofs.Accepting.{Apart, placed_apart, lawful_accepted}
 
 module _ (bytes : List ℕ) (m r T : ℕ) (cells : List ℕ) (cells_place : ℕ) (name : List ℕ) (name_place : ℕ) (header_fits : 12 ≤ length bytes) (table : Table m cells)
-    (lawful : placed (length bytes) cells_place (bytes_for (2 ^ m)) name_place (length name) ≡ true) where
-  apart : Apart (length bytes) cells_place (bytes_for (2 ^ m)) name_place (length name)
-  apart = placed_apart (length bytes) cells_place (bytes_for (2 ^ m)) name_place (length name) lawful
+    (lawful : placed (length bytes) cells_place (bytes_needed (2 ^ m)) name_place (length name) ≡ true) where
+  apart : Apart (length bytes) cells_place (bytes_needed (2 ^ m)) name_place (length name)
+  apart = placed_apart (length bytes) cells_place (bytes_needed (2 ^ m)) name_place (length name) lawful
 
   -- the bytes with the name over them, the cells over these, and the header over all
   abbrev named : List ℕ
@@ -30,8 +30,8 @@ module _ (bytes : List ℕ) (m r T : ℕ) (cells : List ℕ) (cells_place : ℕ)
   abbrev file : List ℕ
   file = over 0 head filled
 
-  length_cells : length (packed cells) ≡ bytes_for (2 ^ m)
-  length_cells = length_packed cells ∙ ap bytes_for table.long
+  length_cells : length (packed cells) ≡ bytes_needed (2 ^ m)
+  length_cells = length_packed cells ∙ ap bytes_needed table.long
 
   length_named : length named ≡ length bytes
   length_named = length_over name_place name bytes apart.within'
@@ -52,9 +52,9 @@ module _ (bytes : List ℕ) (m r T : ℕ) (cells : List ℕ) (cells_place : ℕ)
   section : (from long : ℕ) → 12 ≤ from → part from long file ≡ part from long filled
   section from long behind = part_over_other 0 head filled head_fits from long (λ i l. inr (omega arith))
 
-  cells_part : part cells_place (bytes_for (2 ^ m)) file ≡ packed cells
+  cells_part : part cells_place (bytes_needed (2 ^ m)) file ≡ packed cells
   cells_part =
-      section cells_place (bytes_for (2 ^ m)) apart.behind
+      section cells_place (bytes_needed (2 ^ m)) apart.behind
       ∙ ap (λ long. part cells_place long filled) (sym length_cells)
       ∙ part_over_same cells_place (packed cells) named cells_fit
 
@@ -80,15 +80,15 @@ module _ (bytes : List ℕ) (m r T : ℕ) (cells : List ℕ) (cells_place : ℕ)
   name_long = omega arith
 
   cells_read : cell_bytes file ≡ packed cells
-  cells_read = ap (λ from. part from (bytes_for (2 ^ m)) file) cells_at ∙ cells_part
+  cells_read = ap (λ from. part from (bytes_needed (2 ^ m)) file) cells_at ∙ cells_part
 
   name_read : name_bytes file ≡ name
   name_read = ap₂ (λ from long. part from long file) name_at name_long ∙ name_part
 
-  sections : placed (length file) (place_of_cells file) (bytes_for (2 ^ m)) (place_of_name file) (length_of_name file) ≡ true
+  sections : placed (length file) (place_of_cells file) (bytes_needed (2 ^ m)) (place_of_name file) (length_of_name file) ≡ true
   sections =
-      ap₂ (λ size from. placed size from (bytes_for (2 ^ m)) (place_of_name file) (length_of_name file)) length_file cells_at
-      ∙ ap₂ (placed (length bytes) cells_place (bytes_for (2 ^ m))) name_at name_long
+      ap₂ (λ size from. placed size from (bytes_needed (2 ^ m)) (place_of_name file) (length_of_name file)) length_file cells_at
+      ∙ ap₂ (placed (length bytes) cells_place (bytes_needed (2 ^ m))) name_at name_long
       ∙ lawful
 
   clean : unused (2 ^ m) (cell_bytes file) ≡ 0

@@ -1,5 +1,5 @@
 -- Numbers in decimal digits, without leading zeros.
-use Rattle.std.specs.Prelude.{◌≡◌, ℕ, ◌+◌, ◌-◌, ◌*◌, ◌^◌, ◌<◌, ◌≤◌, List, [], ◌∷◌, length, decimal, slice_index_or}
+use Rattle.std.specs.Prelude.{◌≡◌, ℕ, ◌+◌, ◌-◌, ◌*◌, ◌^◌, ◌<◌, ◌≤◌, List, [], ◌∷◌, length, decimal, slice_index}
 use Rattle.std.specs.List.{AllByRecursion}
 
 -- the number that digits say after a number, the most significant digit first
@@ -12,7 +12,7 @@ pub record Decimal (n : ℕ) (digits : List ℕ) : Type 0 where
   pub all_digits : AllByRecursion (λ d. (48 ≤ d) × (d ≤ 57)) digits
   pub says : said 0 digits ≡ n
   pub some : 0 < length digits
-  pub no_leading_zero : slice_index_or digits 0 0 ≡ 48 → length digits ≡ 1
+  pub no_leading_zero : slice_index digits 0 ≡ 48 → length digits ≡ 1
 
 -- `decimal` gives each number of 64 bits in decimal digits
 abbrev pub Decimals : Type 0

@@ -1,7 +1,7 @@
 -- The patch file: what its bytes say, and the first row that refuses it.
 use Rattle.std.specs.Prelude.{◌≡◌, ℕ, ◌+◌, ◌*◌, ◌^◌, min, max, Bool, cond, not, ◌&&◌, List, length, Some, None, Option, ◌==◌, nat_le, nat_lt, slice_index}
 use Rattle.formats.specs.Putting.{part}
-use Rattle.formats.specs.Packing.{bytes_for, unpacked, unused}
+use Rattle.formats.specs.Packing.{bytes_needed, unpacked, unused}
 
 -- the number of the two bytes at a place, the high one first
 abbrev pub pair_at : List ℕ → ℕ → ℕ
@@ -37,7 +37,7 @@ place_of_name file = pair_at file 10
 
 -- the bytes that hold the cells
 abbrev pub cell_bytes : List ℕ → List ℕ
-cell_bytes file = part (place_of_cells file) (bytes_for (2 ^ variables file)) file
+cell_bytes file = part (place_of_cells file) (bytes_needed (2 ^ variables file)) file
 
 -- the bytes of the name
 abbrev pub name_bytes : List ℕ → List ℕ
@@ -67,7 +67,7 @@ header_row file later =
     (cond (nat_lt (variables file) (order file)) (Some 2)
     (cond (nat_lt 32512 (radius file)) (Some 3)
     (cond (not (count file == 2 ^ variables file)) (Some 6)
-    (cond (not (placed (length file) (place_of_cells file) (bytes_for (2 ^ variables file)) (place_of_name file) (length_of_name file))) (Some 14)
+    (cond (not (placed (length file) (place_of_cells file) (bytes_needed (2 ^ variables file)) (place_of_name file) (length_of_name file))) (Some 14)
     later)))))
 
 -- row 15: an unused bit of the last byte of the cells of m variables is 1

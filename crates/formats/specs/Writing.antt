@@ -3,7 +3,7 @@ use Rattle.std.specs.Prelude.{◌≡◌, ℕ, ◌/◌, ◌%◌, ◌^◌, ◌<◌
 use Rattle.std.specs.List.{AllByRecursion}
 use Rattle.polynomials.specs.Words.{Table}
 use Rattle.formats.specs.Putting.{over}
-use Rattle.formats.specs.Packing.{bytes_for, packed, unpacked}
+use Rattle.formats.specs.Packing.{bytes_needed, packed, unpacked}
 use Rattle.formats.specs.Patch.{placed, variables, order, radius, place_of_cells, place_of_name, cell_bytes, name_bytes, patch_row, Says}
 
 -- a number in two bytes, the high one first
@@ -27,7 +27,7 @@ pub record Writable (bytes : List ℕ) (m r T : ℕ) (cells : List ℕ) (cells_p
   pub low : r ≤ m
   pub near : T ≤ 32512
   pub table : Table m cells
-  pub sections : placed (length bytes) cells_place (bytes_for (2 ^ m)) name_place (length name) ≡ true
+  pub sections : placed (length bytes) cells_place (bytes_needed (2 ^ m)) name_place (length name) ≡ true
 
 -- a file that is lawfully written says what was written, at the places where it was written
 abbrev pub WrittenReadsBack : Type 0

@@ -1,6 +1,6 @@
 -- The rows of a file, by those of its header and of its unused bits; and its cells, by its header.
 use Rattle.std.proofs.Common.{◌≡◌, ℕ, ◌^◌, Bool, true, false, cond, not, ◌&&◌, eqb, ltb, leb, List, length, Some, None, Option, refl, ap, ◌∙◌, ap₂}
-use Rattle.formats.specs.Packing.{bytes_for}
+use Rattle.formats.specs.Packing.{bytes_needed}
 use Rattle.formats.specs.Patch.{variables, order, radius, count, place_of_cells, length_of_name, place_of_name, cell_bytes, placed, header_row}
 use Rattle.formats.specs.Putting.{part}
 use Rattle.patch.specs.declared.header.Header.{Header}
@@ -28,12 +28,12 @@ pub header_first : (file : List ℕ) (later : Option ℕ) → header_row file la
 header_first file later =
     chain_first (not (leb 12 (length file) && leb (length file) 4096)) (ltb 8 (variables file)) (ltb (variables file) (order file)) (ltb 32512 (radius file))
     (not (eqb (count file) (2 ^ variables file)))
-    (not (placed (length file) (place_of_cells file) (bytes_for (2 ^ variables file)) (place_of_name file) (length_of_name file))) later
+    (not (placed (length file) (place_of_cells file) (bytes_needed (2 ^ variables file)) (place_of_name file) (length_of_name file))) later
 
-pub cells_part : (file : List ℕ) (header : Header) (long : ℕ) → header ≡ header_of file → long ≡ bytes_for (2 ^ header.variables)
+pub cells_part : (file : List ℕ) (header : Header) (long : ℕ) → header ≡ header_of file → long ≡ bytes_needed (2 ^ header.variables)
     → part header.cells_at long file ≡ cell_bytes file
 cells_part file header long h l =
-    ap₂ {C = List ℕ} (λ place n. part place n file) (ap (λ x. x.cells_at) h) (l ∙ ap (λ x. bytes_for (2 ^ x.variables)) h)
+    ap₂ {C = List ℕ} (λ place n. part place n file) (ap (λ x. x.cells_at) h) (l ∙ ap (λ x. bytes_needed (2 ^ x.variables)) h)
 
 pub name_part : (file : List ℕ) (header : Header) → header ≡ header_of file → part header.name_at header.name_length file ≡ part (place_of_name file) (length_of_name file) file
 name_part file header h = ap (λ x. part x.name_at x.name_length file) h

@@ -1,6 +1,6 @@
 -- The rows by which a patch file and its packed cells are refused: plain numbers.
 use Rattle.std.specs.Prelude.{ℕ, ◌^◌, cond, not, List, length, Some, None, Ok, Err, Option, Result, ◌==◌, nat_lt}
-use Rattle.formats.specs.Packing.{bytes_for}
+use Rattle.formats.specs.Packing.{bytes_needed}
 use Rattle.formats.specs.Patch.{unused_row}
 
 -- the row that refuses a call, by its answer; none where it was accepted
@@ -12,6 +12,6 @@ row_of (Err row) = Some row
 abbrev pub unpack_row : ℕ → List ℕ → ℕ → Option ℕ
 unpack_row m bytes room =
     cond (nat_lt 8 m) (Some 1)
-    (cond (not (length bytes == bytes_for (2 ^ m))) (Some 6)
+    (cond (not (length bytes == bytes_needed (2 ^ m))) (Some 6)
     (cond (nat_lt room (2 ^ m)) (Some 7)
     (unused_row m bytes)))

@@ -1,6 +1,6 @@
 // Cells packed eight to a byte, the first in the highest bit.
 ghost use Rattle.std.specs.Prelude.{◌≡◌, ◌*◌, ◌/◌, ◌%◌, ◌^◌, ◌<◌, ◌≤◌, ◌++◌, length, drop, IfOk, MatchResult, OnOk, slice_index, slice_set};
-ghost use Rattle.formats.specs.Packing.{bytes_for, bit_at, unpacked, unused, PackedUnpacks, UnpackedPacks};
+ghost use Rattle.formats.specs.Packing.{bytes_needed, bit_from_top, unpacked, unused, PackedUnpacks, UnpackedPacks};
 ghost use Rattle.formats.specs.Patch.{unused_row};
 ghost use Rattle.patch.specs.Rows.{row_of, unpack_row};
 ghost use Rattle.patch.specs.Patches.{as_cells};
@@ -20,7 +20,7 @@ pub(crate) fn points(m: u32) -> usize
 // How many bytes the cells of m variables need.
 pub(crate) fn bytes_for(m: u32) -> usize
     requires { m ≤ 8 }
-    ensures value { result ≡ bytes_for (2 ^ m) }
+    ensures value { result ≡ bytes_needed (2 ^ m) }
     ensures bound { result ≤ 32 }
 {
     (points(m) + 7) >> 3
@@ -37,7 +37,7 @@ fn low_bits(byte: u8, count: usize) -> u8
 // The bit of a byte at a place from 0 to 7, the highest at 0.
 fn bit_of(byte: u8, place: usize) -> u8
     requires { place < 8 }
-    ensures { result ≡ bit_at byte place }
+    ensures { result ≡ bit_from_top byte place }
 {
     low_bits(byte >> (7 - place), 1)
 }
@@ -46,7 +46,7 @@ fn bit_of(byte: u8, place: usize) -> u8
 fn write_cell(bytes: &[u8], cells: &mut [Bit], place: usize)
     requires byte { place / 8 < length bytes.now }
     requires room { place < length cells.old }
-    ensures { cells.new ≡ slice_set cells.old place (record { byte = bit_at (slice_index bytes.now (place / 8)) (place % 8) }) }
+    ensures { cells.new ≡ slice_set cells.old place (record { byte = bit_from_top (slice_index bytes.now (place / 8)) (place % 8) }) }
 {
     cells[place] = Bit {
         byte: bit_of(bytes[place >> 3], place & 7),
@@ -67,7 +67,7 @@ fn write_cells(bytes: &[u8], cells: &mut [Bit], n: usize)
 // The unused bits of the last byte, as a number.
 fn unused_bits(m: u32, bytes: &[u8]) -> u8
     requires few { m ≤ 8 }
-    requires bytes { length bytes.now ≡ bytes_for (2 ^ m) }
+    requires bytes { length bytes.now ≡ bytes_needed (2 ^ m) }
     ensures { result ≡ unused (2 ^ m) bytes.now }
 {
     let spare = 8 * bytes.len() - points(m);
@@ -77,7 +77,7 @@ fn unused_bits(m: u32, bytes: &[u8]) -> u8
 // Refuses bytes whose last one has an unused bit that is 1.
 pub(crate) fn check_unused(m: u32, bytes: &[u8]) -> Result<(), u8>
     requires few { m ≤ 8 }
-    requires bytes { length bytes.now ≡ bytes_for (2 ^ m) }
+    requires bytes { length bytes.now ≡ bytes_needed (2 ^ m) }
     ensures { row_of result ≡ unused_row m bytes.now }
 {
     if unused_bits(m, bytes) != 0 {
@@ -89,7 +89,7 @@ pub(crate) fn check_unused(m: u32, bytes: &[u8]) -> Result<(), u8>
 // Refuses what cannot be unpacked into so much room.
 fn check_packed(m: u32, bytes: &[u8], room: usize) -> Result<(), u8>
     ensures refused { row_of result ≡ unpack_row m bytes.now room }
-    ensures sizes { OnOk result ((m ≤ 8) × (length bytes.now ≡ bytes_for (2 ^ m)) × (2 ^ m ≤ room)) }
+    ensures sizes { OnOk result ((m ≤ 8) × (length bytes.now ≡ bytes_needed (2 ^ m)) × (2 ^ m ≤ room)) }
 {
     if m > 8 {
         return Err(1);

@@ -2,7 +2,7 @@
 ghost use Rattle.std.specs.Prelude.{◌≡◌, ◌+◌, ◌^◌, ◌≤◌, length, IfOk, None};
 ghost use Rattle.formats.specs.Patch.{header_row, patch_row};
 ghost use Rattle.formats.specs.Putting.{part};
-ghost use Rattle.formats.specs.Packing.{bytes_for};
+ghost use Rattle.formats.specs.Packing.{bytes_needed};
 ghost use Rattle.formats.specs.Writing.{WrittenReadsBack, ReadWritesBack};
 ghost use Rattle.patch.specs.Rows.{row_of};
 ghost use Rattle.patch.specs.Patches.{header_of, IsOf};
@@ -25,7 +25,7 @@ fn check_header(file: &[u8]) -> Result<Header, u8>
     ensures refused { row_of result ≡ header_row file.now None }
     ensures header { IfOk result (λ h. h ≡ header_of file.now) }
     ensures few { IfOk result (λ h. h.variables ≤ 8) }
-    ensures cells { IfOk result (λ h. h.cells_at + bytes_for (2 ^ h.variables) ≤ length file.now) }
+    ensures cells { IfOk result (λ h. h.cells_at + bytes_needed (2 ^ h.variables) ≤ length file.now) }
     ensures name { IfOk result (λ h. h.name_at + h.name_length ≤ length file.now) }
 {
     let header = read_header(file)?;

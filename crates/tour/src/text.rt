@@ -1,12 +1,12 @@
 // Bits as text.
-ghost use Rattle.std.specs.Prelude.{◌≡◌, IfOk, if◌then◌else◌, string_bytes, nat_eq};
+ghost use Rattle.std.specs.Prelude.{◌≡◌, IfOk, if◌then◌else◌, string_bytes, ◌==◌};
 ghost use Rattle.tour.specs.Spelling.{spell};
 
 use std::alloc::{AllocError, Global};
 
 // The one text for 0, and the other for every other byte.
 fn glyph<'a>(byte: u8, zero: &'a str, one: &'a str) -> &'a str
-    ensures { result.now ≡ (if nat_eq byte 0 then zero.now else one.now) }
+    ensures { result.now ≡ (if byte == 0 then zero.now else one.now) }
 {
     if byte == 0 { zero } else { one }
 }
