@@ -23,7 +23,7 @@ static void word_of(const uint8_t *message, uint8_t *word) {
     transform(word, m);
 }
 
-/* The cells of a word that the seed gives, with errors at places that it gives. */
+/* The cells of a word, and errors in them, drawn by a generator that starts from this number. */
 static void make_cells(uint32_t seed, int errors) {
     uint8_t message[256], word[256];
     uint32_t s = seed;
