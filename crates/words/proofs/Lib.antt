@@ -1,5 +1,6 @@
 pub mod Bytes
-pub mod Summing
-pub mod Parity
+pub mod Each
+pub mod Folding
 pub mod Gathering
 pub mod Rows
+pub mod Shortness

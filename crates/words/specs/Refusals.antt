@@ -57,9 +57,13 @@ abbrev pub refusal_of : {X : Type 0} → Result X Refusal → Option Told
 refusal_of (Ok x) = None
 refusal_of (Err e) = Some (told e)
 
+-- row 1, the number of variables, and then the rows after it
+abbrev pub variables_row : ℕ → Option Told → Option Told
+variables_row m later = cond (nat_lt 8 m) (Some (row 1)) later
+
 -- rows 1 and 2, the number of variables and the order, and then the rows after them
 abbrev pub size_row : ℕ → ℕ → Option Told → Option Told
-size_row m r later = cond (nat_lt 8 m) (Some (row 1)) (cond (nat_lt m r) (Some (row 2)) later)
+size_row m r later = variables_row m (cond (nat_lt m r) (Some (row 2)) later)
 
 -- row 7, a buffer with less room than is needed, and then the rows after it
 abbrev pub room_row : ℕ → ℕ → Option Told → Option Told

@@ -3,14 +3,18 @@
 #![tactic(auto)]
 
 mod checks;
+mod code;
 mod encoding;
 mod monomials;
+mod polynomial;
 mod reading;
 mod refusals;
-mod sizes;
+mod table;
+mod variables;
 
 pub use checks::{check_bytes, check_room};
+pub use code::{Code, dimension};
 pub use encoding::encode;
 pub use reading::read_back;
 pub use refusals::{Fault, Refusal};
-pub use sizes::dimension;
+pub use variables::Variables;

@@ -1,6 +1,11 @@
 // Refusals and faults. docs/REFUSALS.md has the rows and their numbers.
-ghost use Rattle.std.specs.Prelude.{◌≡◌};
-ghost use Rattle.words.specs.Refusals.{fault_row, told, number};
+ghost use Rattle.std.specs.Prelude.{◌≡◌, Some};
+ghost use Rattle.words.specs.Refusals.{fault_row, found, told, number};
+ghost use Rattle.words.specs.Texts.{found_text, told_text};
+
+use std::error::Error;
+use std::fmt;
+use std::num::f32_to_bits_with_nan;
 
 // What is wrong with one byte of a message or a table, or with one cell of any kind.
 #[derive(Clone, Copy, Debug, Drop)]
@@ -28,6 +33,26 @@ impl Fault {
         }
     }
 }
+
+impl fmt::Display for Fault {
+    ghost output = { λ fault. Some (found_text (found fault)) };
+
+    // What was found: the byte in decimal digits, or the levels by their bits in hexadecimal ones.
+    fn fmt<W: fmt::Write>(&self, f: &mut fmt::Formatter<W>) -> fmt::Result {
+        match self {
+            Fault::Byte(byte) => write!(f, "byte {byte}"),
+            Fault::NotANumber => f.write_str("no level"),
+            Fault::Level(level) => write!(f, "level {:08x}", f32_to_bits_with_nan(*level)),
+            Fault::Levels(darkest, lightest) => {
+                let dark = f32_to_bits_with_nan(*darkest);
+                let light = f32_to_bits_with_nan(*lightest);
+                write!(f, "levels {dark:08x} {light:08x}")
+            }
+        }
+    }
+}
+
+impl Error for Fault {}
 
 // Why a call is refused.
 #[derive(Clone, Copy, Debug, Drop)]
@@ -70,3 +95,18 @@ impl Refusal {
         }
     }
 }
+
+impl fmt::Display for Refusal {
+    ghost output = { λ refusal. Some (told_text (told refusal)) };
+
+    // The number of the row, and then the place and what was found there.
+    fn fmt<W: fmt::Write>(&self, f: &mut fmt::Formatter<W>) -> fmt::Result {
+        let row = self.number();
+        match self {
+            Refusal::At { place, fault } => write!(f, "{row} at place {place}, {fault}"),
+            _ => write!(f, "{row}"),
+        }
+    }
+}
+
+impl Error for Refusal {}

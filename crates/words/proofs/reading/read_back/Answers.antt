@@ -1,6 +1,7 @@
-use Rattle.std.proofs.Common.{◌≡◌, length, take, drop, sym, ap, ◌∙◌, subst}
+use Rattle.std.proofs.Common.{◌≡◌, length, take, drop, sym, ap, ap₂, ◌∙◌, subst, ◌++◌}
 use Rattle.std.proofs.lemmas.List.{take_at, drop_at}
 use Rattle.std.proofs.lemmas.Result.{err_from_is_err_and}
+use Rattle.polynomials.specs.Binomials.{dimension}
 use Rattle.polynomials.specs.Words.{ReadsBack}
 use Rattle.polynomials.specs.Coefficients.{coefficients}
 use Rattle.polynomials.proofs.Inversion.{inversion}
@@ -8,29 +9,35 @@ use Rattle.polynomials.proofs.Reading.{coefficients_message, encodes_coefficient
 use Rattle.words.proofs.Rows.{row_10_degree, word_readable}
 use Rattle.words.proofs.reading.read_back.Goals as goal
 
-pub returns-in_err-k : goal.returns-in_err-k
-returns-in_err-k c =
+pub returns-in_err-code-clause-degree : goal.returns-in_err-code-clause-degree
+returns-in_err-code-clause-degree c =
     let p = err_from_is_err_and c.from_residual.result c.from_residual.ensures.1 in
-    let row = c.in_err-k.ensures.refused in
-    record {
-      refused = rw (p.1, p.2) row;
-      written = rw p.1;
-      bound = rw p.1 tt;
-      degree = rw (p.1, p.2) (row_10_degree _ _ _ _ _ row);
-      undoes_encode = λ sent e few low long. rw p.1 (word_readable _ _ _ _ _ _ e few low long row);
-      law = words_are_low_degree;
-      inversion = inversion;
-    }
+    rw (p.1, p.2) (row_10_degree _ _ _ _ _ c.in_err-code.ensures.refused)
+
+pub returns-in_err-code-clause-undoes_encode : goal.returns-in_err-code-clause-undoes_encode
+returns-in_err-code-clause-undoes_encode c = λ sent e few low long.
+    rw (err_from_is_err_and c.from_residual.result c.from_residual.ensures.1).1
+    (word_readable _ _ _ _ _ _ e few low long c.in_err-code.ensures.refused)
+
+pub returns-in_err-code-clause-law : goal.returns-in_err-code-clause-law
+returns-in_err-code-clause-law c = words_are_low_degree
+
+pub returns-in_err-code-clause-inversion : goal.returns-in_err-code-clause-inversion
+returns-in_err-code-clause-inversion c = inversion
 
 pub returns : goal.returns
 returns c =
-    let ok = c.in_ok-k.ensures in
-    let k = ok.sizes.1 in
+    let ok = c.in_ok-code.ensures in
+    let m = ok.code.0 in
+    let r = ok.code.1 in
+    let k : c.dimension-k.result ≡ dimension c.args.m c.args.r = c.dimension-k.ensures.value ∙ ap₂ dimension m r in
     let found = coefficients c.args.m c.args.r c.args.table.now in
-    let long : length found ≡ c.in_ok-k.k = (coefficients_message c.args.m c.args.r c.args.table.now).long ∙ sym k in
-    let front : take c.in_ok-k.k c.write_message.new.message ≡ found
-    = ap (take c.in_ok-k.k) c.write_message.ensures ∙ take_at found _ _ long in
-    let reads : ReadsBack c.args.m c.args.r c.args.table.now (take c.in_ok-k.k c.write_message.new.message)
+    let written : c.write_message.new.message ≡ found ++ drop (dimension c.args.m c.args.r) c.args.message.now
+    = c.write_message.ensures ∙ ap₂ (λ m r. coefficients m r c.args.table.now ++ drop (dimension m r) c.args.message.now) m r in
+    let long : length found ≡ c.dimension-k.result = (coefficients_message c.args.m c.args.r c.args.table.now).long ∙ sym k in
+    let front : take c.dimension-k.result c.write_message.new.message ≡ found
+    = ap (take c.dimension-k.result) written ∙ take_at found _ _ long in
+    let reads : ReadsBack c.args.m c.args.r c.args.table.now (take c.dimension-k.result c.write_message.new.message)
     = subst (ReadsBack c.args.m c.args.r c.args.table.now) (sym front)
     (words_differ _ _ _ _ (encodes_coefficients _ _ _ ok.word.0 ok.word.1)) in
     record {
@@ -38,9 +45,9 @@ returns c =
       written = (
         k,
         reads,
-        ap (drop c.in_ok-k.k) c.write_message.ensures ∙ drop_at found _ _ long ∙ ap (λ n. drop n c.args.message.now) (sym k),
+        ap (drop c.dimension-k.result) written ∙ drop_at found _ _ long ∙ ap (λ n. drop n c.args.message.now) (sym k),
       );
-      bound = ok.sizes.2;
+      bound = rw k ok.sizes.1;
       degree = ok.word.1;
       undoes_encode = λ sent e few low long. sym (reads.only sent e);
       law = words_are_low_degree;

@@ -1,0 +1,17 @@
+use Rattle.std.proofs.Common.{◌≡◌, length, sym, ap, ◌∙◌, subst, inl, arith, rules}
+use Rattle.polynomials.specs.Monomials.{monomials}
+use Rattle.words.specs.Left.{monomials_left}
+use Rattle.words.proofs.Gathering.{Gathering, gathering_none}
+use Rattle.words.proofs.table.Table.write_message.Goals as goal
+
+pub loop-place-init : goal.loop-place-init
+loop-place-init c =
+    let code = c.args.self.now.code in
+    let start = c.into_iter-place-iterator.result in
+    let zero : start.count ≡ 0 = search rules in
+    let same : start.iter ≡ c.monomials.result = search rules in
+    let left : monomials_left start.iter ≡ monomials code.variables code.order = ap monomials_left same ∙ c.monomials.ensures.left in (
+      (tt, tt, inl (omega (arith, zero, ap (λ s. length (monomials_left s)) same, c.monomials.ensures.bound))),
+      tt,
+      subst (Gathering _ _ _ _ _ _) (sym zero) (gathering_none _ _ _ _ _ left),
+    )

@@ -1,0 +1,76 @@
+// Codes, and their dimension.
+ghost use Rattle.std.specs.Prelude.{◌≡◌, ◌^◌, ◌≤◌, length, IfOk, OnOk};
+ghost use Rattle.polynomials.specs.Monomials.{monomials};
+ghost use Rattle.polynomials.specs.Binomials.{dimension};
+ghost use Rattle.polynomials.specs.Laws.{MonomialsCounted};
+ghost use Rattle.words.specs.Left.{monomials_left};
+ghost use Rattle.words.specs.Refusals.{refusal_of, dimension_row};
+
+use crate::monomials::Monomials;
+use crate::refusals::Refusal;
+use crate::variables::Variables;
+
+// A code: a number of variables and an order, which is at most that number.
+#[derive(Clone, Copy, Debug, PartialEq, Eq)]
+pub struct Code {
+    pub variables: Variables,
+    pub order: u32,
+    ghost low: { order ≤ variables },
+}
+
+impl Code {
+    // The code of order r in m variables. Refuses more than eight variables, and an order above their number.
+    pub fn new(m: u32, r: u32) -> Result<Code, Refusal>
+        ensures refused { refusal_of result ≡ dimension_row m r }
+        ensures code { IfOk result (λ code. (code.variables ≡ m) × (code.order ≡ r)) }
+        ensures sizes { OnOk result ((m ≤ 8) × (r ≤ m)) }
+    {
+        let variables = Variables::try_from(m)?;
+        if r > m {
+            return Err(Refusal::Order);
+        }
+        Ok(Code {
+            variables,
+            order: r,
+        })
+    }
+
+    // The number of points.
+    pub fn points(&self) -> usize
+        ensures value { result ≡ 2 ^ self.now.variables }
+        ensures bound { result ≤ 256 }
+    {
+        self.variables.points()
+    }
+
+    // The admitted monomials, in prefix order.
+    pub(crate) fn monomials(&self) -> Monomials
+        ensures left { monomials_left result ≡ monomials self.now.variables self.now.order }
+        ensures bound { length (monomials_left result) ≤ 256 }
+    {
+        Monomials {
+            order: self.order,
+            below: self.points(),
+        }
+    }
+
+    // The length k of a message: the sum of the binomials m over i for i from 0 to r, which is the number of admitted monomials.
+    pub fn dimension(&self) -> usize
+        ensures value { result ≡ dimension self.now.variables self.now.order }
+        ensures counted { result ≡ length (monomials self.now.variables self.now.order) }
+        ensures bound { result ≤ 256 }
+    {
+        self.monomials().count()
+    }
+}
+
+// The length k of a message of order r in m variables: the sum of the binomials m over i for i from 0 to r, which is the number of monomials
+// that order r admits.
+pub fn dimension(m: u32, r: u32) -> Result<usize, Refusal>
+    ensures refused { refusal_of result ≡ dimension_row m r }
+    ensures value { IfOk result (λ k. k ≡ dimension m r) }
+    ensures counted { IfOk result (λ k. k ≡ length (monomials m r)) }
+    ensures law { MonomialsCounted }
+{
+    Ok(Code::new(m, r)?.dimension())
+}

@@ -1,0 +1,43 @@
+// Polynomials, and their values.
+ghost use Rattle.std.specs.Prelude.{◌≡◌, ℕ, ◌%◌, ◌^◌, ◌<◌, ◌≤◌, ◌++◌, length, drop, slice_index};
+ghost use Rattle.polynomials.specs.Binomials.{dimension};
+ghost use Rattle.polynomials.specs.Monomials.{monomials};
+ghost use Rattle.polynomials.specs.Words.{sum_at, word_of};
+
+use crate::code::Code;
+use crate::monomials::is_inside;
+
+// A polynomial of a code by its message: a bit for each admitted monomial, in prefix order.
+#[derive(Clone, Copy, Drop)]
+pub(crate) struct Polynomial<'a> {
+    pub(crate) code: Code,
+    pub(crate) message: &'a [u8],
+    ghost long: { length message.now ≡ dimension code.variables code.order },
+    ghost bits: { (place : ℕ) → slice_index message.now place < 2 },
+}
+
+impl Polynomial<'_> {
+    // The value at a point: the sum modulo 2 of the monomials that have the coefficient 1 and are 1 there.
+    fn value_at(&self, point: usize) -> u8
+        ensures { result ≡ sum_at (monomials self.now.code.variables self.now.code.order) self.now.message.now point % 2 }
+    {
+        self.code
+            .monomials()
+            .zip(self.message.iter())
+            .filter(|(mono, _)| is_inside(*mono, point))
+            .fold(0, |sum, (_, bit)| sum ^ *bit)
+    }
+
+    // Writes the word, its value at each point, into the front of the buffer, and answers the number of points.
+    pub(crate) fn write_word(&self, word: &mut [u8]) -> usize
+        requires room { 2 ^ self.now.code.variables ≤ length word.old }
+        ensures points { result ≡ 2 ^ self.now.code.variables }
+        ensures written { word.new ≡ word_of self.now.code.variables self.now.code.order self.now.message.now ++ drop result word.old }
+    {
+        let n = self.code.points();
+        for (point, cell) in word[..n].iter_mut().enumerate() {
+            *cell = self.value_at(point);
+        }
+        n
+    }
+}

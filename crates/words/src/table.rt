@@ -1,0 +1,51 @@
+// Tables, and their coefficients.
+ghost use Rattle.std.specs.Prelude.{◌≡◌, ℕ, ◌^◌, ◌<◌, ◌≤◌, ◌++◌, length, drop, slice_index, ◌↔◌, IsTrue};
+ghost use Rattle.polynomials.specs.Binomials.{dimension};
+ghost use Rattle.polynomials.specs.Coefficients.{coefficient, coefficients, Degree≤};
+
+use crate::code::Code;
+use crate::monomials::{is_admitted, is_inside};
+
+// A table that is to be read back in a code: a bit for each point.
+#[derive(Clone, Copy, Drop)]
+pub(crate) struct Table<'a> {
+    pub(crate) code: Code,
+    pub(crate) bits: &'a [u8],
+    ghost long: { length bits.now ≡ 2 ^ code.variables },
+    ghost each: { (point : ℕ) → slice_index bits.now point < 2 },
+}
+
+impl Table<'_> {
+    // The coefficient of a monomial: the parity of the table over the points inside the monomial.
+    fn coefficient_of(&self, mono: usize) -> u8
+        ensures { result ≡ coefficient self.now.code.variables self.now.bits.now mono }
+    {
+        self.bits
+            .iter()
+            .enumerate()
+            .filter(|(point, _)| is_inside(*point, mono))
+            .fold(0, |sum, (_, bit)| sum ^ *bit)
+    }
+
+    // Whether the coefficient of each monomial that the order does not admit is 0.
+    pub(crate) fn is_low(&self) -> bool
+        ensures { IsTrue result ↔ Degree≤ self.now.code.variables self.now.code.order self.now.bits.now }
+    {
+        for mono in 0..self.code.points() {
+            if !is_admitted(self.code.order, mono) && self.coefficient_of(mono) != 0 {
+                return false;
+            }
+        }
+        true
+    }
+
+    // Writes the coefficients of the admitted monomials into the front of the buffer, in prefix order.
+    pub(crate) fn write_message(&self, message: &mut [u8])
+        requires room { dimension self.now.code.variables self.now.code.order ≤ length message.old }
+        ensures { message.new ≡ coefficients self.now.code.variables self.now.code.order self.now.bits.now ++ drop (dimension self.now.code.variables self.now.code.order) message.old }
+    {
+        for (place, mono) in self.code.monomials().enumerate() {
+            message[place] = self.coefficient_of(mono);
+        }
+    }
+}
