@@ -1,18 +1,18 @@
 // The calls that set a reader up and start its listing over.
-ghost use Rattle.std.specs.Prelude.{◌≡◌, ℕ, ◌^◌, ◌≤◌, true, List, [], ◌∷◌, map, ℤ, MatchResult, OnOk};
+ghost use Rattle.std.specs.Prelude.{◌≡◌, ℕ, List, [], ◌∷◌, map, ℤ, Some, None, IfOk, MatchResult};
 ghost use Rattle.words.specs.Refusals.{refusal_of};
 ghost use Rattle.cells.specs.Readings.{Weighed};
 ghost use Rattle.runs.specs.Traces.{Trace, event, set_call, radius_call, load_call, rewind_call, shape_of, weights_of};
 ghost use Rattle.runs.specs.Answers.{done_or};
-ghost use Rattle.runs.specs.Rows.{set_row, radius_row, load_row, rewind_row};
+ghost use Rattle.runs.specs.Rows.{unset_row, set_row, radius_row, load_row, rewind_row};
 ghost use Rattle.runs.specs.CallLaws.{SetLaw, RadiusLaw, LoadLaw, RewindLaw};
 ghost use Rattle.runs.specs.States.{LedTo, set_to, with_radius, with_weights, rewound};
 ghost use Rattle.runs.specs.States.{new as new_state};
 ghost use Rattle.reader.specs.Views.{view};
 
-use crate::state::Reader;
+use crate::state::{Reader, Setting};
 use cells::{Cell, weigh};
-use words::{Refusal, dimension};
+use words::{Code, Refusal};
 
 // The widest radius: no word costs more.
 const WIDEST: u32 = 32_512;
@@ -24,35 +24,26 @@ impl Reader {
         ensures history { LedTo [] (view result) }
     {
         Reader {
-            set: false,
-            m: 0,
-            r: 0,
-            k: 1,
-            radius: 0,
-            loaded: false,
-            weights: [0; 256],
-            begun: false,
-            last: [0; 256],
+            setting: None,
+            weights: None,
+            last: None,
         }
     }
 
-    // The number of points, and so of cells.
-    pub(crate) fn points(&self) -> usize
-        ensures value { result ≡ 2 ^ self.now.m }
-        ensures bound { result ≤ 256 }
+    // What the reader has been set to.
+    pub(crate) fn setting(&self) -> Result<Setting, Refusal>
+        ensures refused { refusal_of result ≡ unset_row (view self.now).shape (λ _. None) }
+        ensures setting { IfOk result (λ setting. self.now.setting ≡ Some setting) }
     {
-        1 << self.m
+        self.setting.ok_or(Refusal::Unset)
     }
 
     // Refuses a reader that is not set or has no cells.
     pub(crate) fn check_loaded(&self) -> Result<(), Refusal>
         ensures refused { refusal_of result ≡ rewind_row (view self.now).shape (view self.now).weights }
-        ensures loaded { OnOk result ((self.now.set ≡ true) × (self.now.loaded ≡ true)) }
     {
-        if !self.set {
-            return Err(Refusal::Unset);
-        }
-        if !self.loaded {
+        self.setting()?;
+        if self.weights.is_none() {
             return Err(Refusal::NoCells);
         }
         Ok(())
@@ -64,17 +55,13 @@ impl Reader {
         ensures state { MatchResult result (λ _. view self.new ≡ set_to m r radius) (λ _. self.new ≡ self.old) }
         ensures history { (h : Trace) → LedTo h (view self.old) → SetLaw m r radius (done_or result) × LedTo (event (set_call m r radius) (done_or result) [] ∷ h) (view self.new) }
     {
-        let k = dimension(m, r)?;
+        let code = Code::new(m, r)?;
         if radius > WIDEST {
             return Err(Refusal::Radius);
         }
-        self.set = true;
-        self.m = m;
-        self.r = r;
-        self.k = k;
-        self.radius = radius;
-        self.loaded = false;
-        self.begun = false;
+        self.setting = Some(Setting { code, radius });
+        self.weights = None;
+        self.last = None;
         Ok(())
     }
 
@@ -87,11 +74,9 @@ impl Reader {
         if radius > WIDEST {
             return Err(Refusal::Radius);
         }
-        if !self.set {
-            return Err(Refusal::Unset);
-        }
-        self.radius = radius;
-        self.begun = false;
+        let setting = self.setting()?;
+        self.setting = Some(Setting { radius, ..setting });
+        self.last = None;
         Ok(())
     }
 
@@ -102,7 +87,7 @@ impl Reader {
         ensures history { (h : Trace) → LedTo h (view self.old) → RewindLaw (shape_of h) (weights_of h) (done_or result) × LedTo (event rewind_call (done_or result) [] ∷ h) (view self.new) }
     {
         self.check_loaded()?;
-        self.begun = false;
+        self.last = None;
         Ok(())
     }
 
@@ -112,17 +97,14 @@ impl Reader {
         ensures state { MatchResult result (λ _. (weights : List ℤ) × Weighed (map C.Cell.reading cells.now) weights × (view self.new ≡ with_weights weights (view self.old))) (λ _. self.new ≡ self.old) }
         ensures history { (h : Trace) → LedTo h (view self.old) → LoadLaw (shape_of h) (map C.Cell.reading cells.now) (done_or result) × LedTo (event (load_call (map C.Cell.reading cells.now)) (done_or result) [] ∷ h) (view self.new) }
     {
-        if !self.set {
-            return Err(Refusal::Unset);
-        }
-        if cells.len() != self.points() {
+        let code = self.setting()?.code;
+        if cells.len() != code.points() {
             return Err(Refusal::Length);
         }
-        let mut weights = self.weights;
+        let mut weights = [0; 256];
         weigh(cells, &mut weights)?;
-        self.weights = weights;
-        self.loaded = true;
-        self.begun = false;
+        self.weights = Some(weights);
+        self.last = None;
         Ok(())
     }
 }
