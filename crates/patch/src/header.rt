@@ -1,8 +1,13 @@
 // The header of a patch file: its first twelve bytes.
-ghost use Rattle.std.specs.Prelude.{◌≡◌, ◌+◌, ◌*◌, ◌≤◌, IfOk, None};
+ghost use Rattle.std.specs.Prelude.{◌≡◌, ◌+◌, ◌*◌, ◌^◌, ◌≤◌, IfOk, None};
+ghost use Rattle.formats.specs.Packing.{bytes_needed};
 ghost use Rattle.formats.specs.Patch.{length_row};
-ghost use Rattle.patch.specs.Rows.{row_of};
+ghost use Rattle.patch.specs.Flaw.{row_found};
 ghost use Rattle.patch.specs.Patches.{header_of};
+
+use crate::flaw::Flaw;
+use crate::packing::bytes_for;
+use crate::section::Section;
 
 // The numbers that the header has, in their order.
 #[derive(Clone, Copy, Drop)]
@@ -23,32 +28,54 @@ pub struct Header {
     pub name_at: usize,
 }
 
+impl Header {
+    // The section of the cells.
+    pub(crate) fn cells(&self) -> Section
+        requires { self.now.variables ≤ 8 }
+        ensures { result ≡ record { place = self.now.cells_at; length = bytes_needed (2 ^ self.now.variables) } }
+    {
+        Section {
+            place: self.cells_at,
+            length: bytes_for(self.variables),
+        }
+    }
+
+    // The section of the name.
+    pub(crate) fn name(&self) -> Section
+        ensures { result ≡ record { place = self.now.name_at; length = self.now.name_length } }
+    {
+        Section {
+            place: self.name_at,
+            length: self.name_length,
+        }
+    }
+}
+
 // The number of two bytes, the high one first.
-fn pair(high: u8, low: u8) -> usize
-    ensures value { result ≡ 256 * high + low }
-    ensures bound { result ≤ 65535 }
+fn pair(high: u8, low: u8) -> u16
+    ensures { result ≡ 256 * high + low }
 {
-    256 * high as usize + low as usize
+    u16::from_be_bytes([high, low])
 }
 
 // Reads the header of a file of 12 to 4,096 bytes.
-pub(crate) fn read_header(file: &[u8]) -> Result<Header, u8>
-    ensures refused { row_of result ≡ length_row file.now None }
+pub(crate) fn read_header(file: &[u8]) -> Result<Header, Flaw>
+    ensures refused { row_found result ≡ length_row file.now None }
     ensures header { IfOk result (λ h. h ≡ header_of file.now) }
 {
-    let [m, r, t1, t0, n1, n0, c1, c0, l1, l0, a1, a0, ..] = file else {
-        return Err(13);
+    let [m, r, t1, t0, n1, n0, c1, c0, l1, l0, a1, a0, ..] = *file else {
+        return Err(Flaw::FileLength);
     };
     if file.len() > 4096 {
-        return Err(13);
+        return Err(Flaw::FileLength);
     }
     Ok(Header {
-        variables: *m as u32,
-        order: *r as u32,
-        radius: pair(*t1, *t0) as u32,
-        count: pair(*n1, *n0),
-        cells_at: pair(*c1, *c0),
-        name_length: pair(*l1, *l0),
-        name_at: pair(*a1, *a0),
+        variables: m.into(),
+        order: r.into(),
+        radius: pair(t1, t0).into(),
+        count: pair(n1, n0).into(),
+        cells_at: pair(c1, c0).into(),
+        name_length: pair(l1, l0).into(),
+        name_at: pair(a1, a0).into(),
     })
 }

@@ -2,10 +2,11 @@
 
 #![tactic(auto)]
 
+mod flaw;
 mod header;
 mod packing;
-mod places;
 mod reading;
+mod section;
 
 pub use header::Header;
 pub use packing::unpack;
