@@ -1,27 +1,27 @@
 // What is wrong with a patch file, or with packed cells.
 
-// Each flaw is one row of the refusals.
+// A flaw has the number of its row.
 #[derive(Clone, Copy, Debug, PartialEq, Eq)]
 pub(crate) enum Flaw {
     // More than eight variables.
-    Variables,
+    Variables = 1,
     // An order above the number of variables.
-    Order,
+    Order = 2,
     // Too great a radius.
-    Radius,
+    Radius = 3,
     // Another number of cells, or of bytes that hold them, than the variables ask.
-    Count,
+    Count = 6,
     // Too little room for the cells.
-    Room,
+    Room = 7,
     // A file that is too short or too long.
-    FileLength,
+    FileLength = 13,
     // A section that leaves the file, begins inside the header, or shares a byte with the other.
-    Places,
+    Places = 14,
     // An unused bit that is 1.
-    UnusedBit,
+    UnusedBit = 15,
 }
 
-// A public call is refused by the row's number.
+// A public call is refused by the number.
 impl From<Flaw> for u8 {
     ghost use Rattle.std.specs.Prelude.{◌≡◌};
     ghost use Rattle.patch.specs.Flaw.{flaw_row};
@@ -29,15 +29,6 @@ impl From<Flaw> for u8 {
     ghost from_gives = { λ flaw row. row ≡ flaw_row flaw };
 
     fn from(flaw: Flaw) -> u8 {
-        match flaw {
-            Flaw::Variables => 1,
-            Flaw::Order => 2,
-            Flaw::Radius => 3,
-            Flaw::Count => 6,
-            Flaw::Room => 7,
-            Flaw::FileLength => 13,
-            Flaw::Places => 14,
-            Flaw::UnusedBit => 15,
-        }
+        flaw as u8
     }
 }
