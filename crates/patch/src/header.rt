@@ -9,7 +9,7 @@ use crate::flaw::Flaw;
 use crate::packing::bytes_for;
 use crate::section::Section;
 
-// The numbers that the header has, in their order.
+// The numbers that the header has, in their order. Callers read them by these names, so no section is a field.
 #[derive(Clone, Copy, Drop)]
 pub struct Header {
     // The number of variables, m.
@@ -63,6 +63,7 @@ pub(crate) fn read_header(file: &[u8]) -> Result<Header, Flaw>
     ensures refused { row_found result ≡ length_row file.now None }
     ensures header { IfOk result (λ h. h ≡ header_of file.now) }
 {
+    // By the project's rule the bytes are named in one pattern.
     let [m, r, t1, t0, n1, n0, c1, c0, l1, l0, a1, a0, ..] = *file else {
         return Err(Flaw::FileLength);
     };

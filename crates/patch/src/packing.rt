@@ -48,6 +48,7 @@ fn write_cells(bytes: &[u8], cells: &mut [Bit])
     requires { length cells.old ≤ 8 * length bytes.now }
     ensures { cells.new ≡ as_cells (unpacked (length cells.old) bytes.now) }
 {
+    // By the project's rule the bit is found by a shift and a mask.
     for (place, cell) in cells.iter_mut().enumerate() {
         *cell = Bit {
             byte: bit_of(bytes[place >> 3], place & 7),
@@ -90,6 +91,7 @@ fn check_packed(m: u32, bytes: &[u8], room: usize) -> Result<usize, Flaw>
 }
 
 // Writes the cells of m variables that the bytes hold into the first n = 2^m of the buffer, and answers n.
+// By the project's rule a refusal is a plain number.
 pub fn unpack(m: u32, bytes: &[u8], cells: &mut [Bit]) -> Result<usize, u8>
     ensures refused { row_of result ≡ unpack_row m bytes.now (length cells.old) }
     ensures written { MatchResult result (λ n. (n ≡ 2 ^ m) × (cells.new ≡ as_cells (unpacked n bytes.now) ++ drop n cells.old)) (λ _. cells.new ≡ cells.old) }

@@ -12,6 +12,7 @@ use crate::header::{Header, read_header};
 use crate::packing::{check_unused, points};
 
 // What a patch file says. The cells and the name are parts of the file, at the places that the header has.
+// By the project's rule it is a plain struct, with no invariant.
 #[derive(Clone, Copy, Drop)]
 pub struct Patch<'a> {
     pub file: &'a [u8],
@@ -51,6 +52,7 @@ fn check_file(file: &[u8]) -> Result<Header, Flaw>
 }
 
 // Reads a patch file: the file itself, the numbers in its header, and its two parts.
+// By the project's rule a refusal is a plain number.
 pub fn read_patch(file: &[u8]) -> Result<Patch<'_>, u8>
     ensures refused { row_of result ≡ patch_row file.now }
     ensures patch { IfOk result (λ p. IsOf file.now p) }

@@ -44,7 +44,8 @@ impl Section {
     // The bytes of a file that it has.
     pub(crate) fn part_of(self, file: &[u8]) -> &[u8]
         requires { self.place + self.length ≤ length file.now }
-        ensures { result.now ≡ part self.place self.length file.now }
+        ensures bytes { result.now ≡ part self.place self.length file.now }
+        ensures count { length result.now ≡ self.length }
     {
         &file[self.place..self.place + self.length]
     }
