@@ -8,6 +8,7 @@ ghost use Rattle.patch.specs.Patches.{header_of};
 use crate::flaw::Flaw;
 use crate::packing::bytes_for;
 use crate::section::Section;
+use words::Variables;
 
 // The numbers that the header has, in their order. Callers read them by these names, so no section is a field.
 #[derive(Clone, Copy, Drop)]
@@ -29,14 +30,13 @@ pub struct Header {
 }
 
 impl Header {
-    // The section of the cells.
-    pub(crate) fn cells(&self) -> Section
-        requires { self.now.variables ≤ 8 }
-        ensures { result ≡ record { place = self.now.cells_at; length = bytes_needed (2 ^ self.now.variables) } }
+    // The section of the cells of so many variables.
+    pub(crate) fn cells(&self, variables: &Variables) -> Section
+        ensures { result ≡ record { place = self.now.cells_at; length = bytes_needed (2 ^ variables.now) } }
     {
         Section {
             place: self.cells_at,
-            length: bytes_for(self.variables),
+            length: bytes_for(variables),
         }
     }
 

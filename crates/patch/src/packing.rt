@@ -8,23 +8,13 @@ ghost use Rattle.patch.specs.Patches.{as_cells};
 
 use crate::flaw::Flaw;
 use cells::Bit;
+use words::Variables;
 
-// The number of cells of m variables.
-pub(crate) fn points(m: u32) -> usize
-    requires { m ≤ 8 }
-    ensures value { result ≡ 2 ^ m }
-    ensures low_bound { 1 ≤ result }
-    ensures high_bound { result ≤ 256 }
+// How many bytes the cells of so many variables need.
+pub(crate) fn bytes_for(variables: &Variables) -> usize
+    ensures { result ≡ bytes_needed (2 ^ variables.now) }
 {
-    1 << m
-}
-
-// How many bytes the cells of m variables need.
-pub(crate) fn bytes_for(m: u32) -> usize
-    requires { m ≤ 8 }
-    ensures { result ≡ bytes_needed (2 ^ m) }
-{
-    points(m).div_ceil(8)
+    variables.points().div_ceil(8)
 }
 
 // The lowest bits of a byte, so many of them, as a number.
@@ -57,12 +47,12 @@ fn write_cells(bytes: &[u8], cells: &mut [Bit])
 }
 
 // Refuses bytes whose last one has an unused bit that is 1.
-pub(crate) fn check_unused(m: u32, bytes: &[u8]) -> Result<(), Flaw>
-    requires few { m ≤ 8 }
-    requires bytes { length bytes.now ≡ bytes_needed (2 ^ m) }
-    ensures { row_found result ≡ unused_row m bytes.now }
+pub(crate) fn check_unused(variables: &Variables, bytes: &[u8]) -> Result<(), Flaw>
+    requires bytes { length bytes.now ≡ bytes_needed (2 ^ variables.now) }
+    ensures { row_found result ≡ unused_row variables.now bytes.now }
 {
-    let spare = 8 * bytes.len() - points(m);
+    let n = variables.points();
+    let spare = 8 * bytes.len() - n;
     match bytes.last() {
         Some(&last) if low_bits(last, spare) != 0 => Err(Flaw::UnusedBit),
         _ => Ok(()),
@@ -76,17 +66,17 @@ fn check_packed(m: u32, bytes: &[u8], room: usize) -> Result<usize, Flaw>
     ensures held { IfOk result (λ n. n ≤ 8 * length bytes.now) }
     ensures fits { IfOk result (λ n. n ≤ room) }
 {
-    if m > 8 {
+    let Ok(variables) = Variables::try_from(m) else {
         return Err(Flaw::Variables);
-    }
-    if bytes.len() != bytes_for(m) {
+    };
+    if bytes.len() != bytes_for(&variables) {
         return Err(Flaw::Count);
     }
-    let n = points(m);
+    let n = variables.points();
     if room < n {
         return Err(Flaw::Room);
     }
-    check_unused(m, bytes)?;
+    check_unused(&variables, bytes)?;
     Ok(n)
 }
 

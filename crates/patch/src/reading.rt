@@ -1,15 +1,15 @@
 // Reading a patch file.
-ghost use Rattle.std.specs.Prelude.{◌≡◌, ◌+◌, ◌^◌, ◌≤◌, length, IfOk};
+ghost use Rattle.std.specs.Prelude.{◌≡◌, IfOk};
 ghost use Rattle.formats.specs.Patch.{patch_row};
-ghost use Rattle.formats.specs.Packing.{bytes_needed};
 ghost use Rattle.formats.specs.Writing.{WrittenReadsBack, ReadWritesBack};
 ghost use Rattle.patch.specs.Flaw.{row_found};
 ghost use Rattle.patch.specs.Rows.{row_of};
-ghost use Rattle.patch.specs.Patches.{header_of, IsOf};
+ghost use Rattle.patch.specs.Patches.{IsOf};
 
 use crate::flaw::Flaw;
 use crate::header::{Header, read_header};
-use crate::packing::{check_unused, points};
+use crate::packing::check_unused;
+use words::Variables;
 
 // What a patch file says. The cells and the name are parts of the file, at the places that the header has.
 // By the project's rule it is a plain struct, with no invariant.
@@ -21,34 +21,36 @@ pub struct Patch<'a> {
     pub name: &'a [u8],
 }
 
-// The header of a file that no row refuses.
-fn check_file(file: &[u8]) -> Result<Header, Flaw>
+// The patch that a file is, where no row refuses it.
+fn patch_of(file: &[u8]) -> Result<Patch<'_>, Flaw>
     ensures refused { row_found result ≡ patch_row file.now }
-    ensures header { IfOk result (λ h. h ≡ header_of file.now) }
-    ensures few { IfOk result (λ h. h.variables ≤ 8) }
-    ensures cells { IfOk result (λ h. h.cells_at + bytes_needed (2 ^ h.variables) ≤ length file.now) }
-    ensures name { IfOk result (λ h. h.name_at + h.name_length ≤ length file.now) }
+    ensures patch { IfOk result (λ p. IsOf file.now p) }
 {
     let header = read_header(file)?;
-    let m = header.variables;
-    if m > 8 {
+    let Ok(variables) = Variables::try_from(header.variables) else {
         return Err(Flaw::Variables);
-    }
-    if header.order > m {
+    };
+    if header.order > header.variables {
         return Err(Flaw::Order);
     }
     if header.radius > 32512 {
         return Err(Flaw::Radius);
     }
-    if header.count != points(m) {
+    if header.count != variables.points() {
         return Err(Flaw::Count);
     }
-    let cells = header.cells();
-    if !cells.is_placed_with(header.name(), file.len()) {
+    let cells = header.cells(&variables);
+    let name = header.name();
+    if !cells.is_placed_with(name, file.len()) {
         return Err(Flaw::Places);
     }
-    check_unused(m, cells.part_of(file))?;
-    Ok(header)
+    check_unused(&variables, cells.part_of(file))?;
+    Ok(Patch {
+        file,
+        header,
+        cells: cells.part_of(file),
+        name: name.part_of(file),
+    })
 }
 
 // Reads a patch file: the file itself, the numbers in its header, and its two parts.
@@ -59,11 +61,5 @@ pub fn read_patch(file: &[u8]) -> Result<Patch<'_>, u8>
     ensures reads_back { WrittenReadsBack }
     ensures writes_back { ReadWritesBack }
 {
-    let header = check_file(file)?;
-    Ok(Patch {
-        file,
-        header,
-        cells: header.cells().part_of(file),
-        name: header.name().part_of(file),
-    })
+    Ok(patch_of(file)?)
 }
