@@ -1,3 +1,2 @@
-pub mod Fronts
 pub mod Joining
-pub mod Needed
+pub mod Numbers

@@ -1,13 +1,22 @@
--- Pieces put into a buffer, each after the one before it.
-use Rattle.std.specs.Prelude.{ℕ, ◌+◌, List, [], ◌∷◌, length}
-use Rattle.formats.specs.Putting.{over}
+-- The pieces of a line, and their bytes.
+use Rattle.std.specs.Prelude.{ℕ, ◌+◌, List, map, decimal}
+use Rattle.std.specs.List.{flat_map}
+use Rattle.polynomials.specs.Messages.{Bits as AreBits}
+use Rattle.lines.specs.declared.pieces.Piece.{Piece}
+use Rattle.lines.specs.declared.pieces.Piece.TheVariants.{Bytes, Bits, Number}
 
--- how long the pieces are together
-abbrev pub lengths : List (List ℕ) → ℕ
-lengths [] = 0
-lengths (p ∷ ps) = length p + lengths ps
+-- the bytes of a piece
+abbrev pub bytes_of : Piece → List ℕ
+bytes_of (Bytes bytes) = bytes.now
+bytes_of (Bits bits) = map (λ b. 48 + b) bits.now
+bytes_of (Number n) = decimal n
 
--- these bytes with the pieces put over them from a place on
-abbrev pub puts : ℕ → List (List ℕ) → List ℕ → List ℕ
-puts place [] bytes = bytes
-puts place (p ∷ ps) bytes = puts (place + length p) ps (over place p bytes)
+-- the bytes of the pieces, one piece after the other
+abbrev pub text : List Piece → List ℕ
+text pieces = flat_map bytes_of pieces
+
+-- what is written as bits is bits
+abbrev pub HasBits : Piece → Type 0
+HasBits (Bytes bytes) = Unit {0}
+HasBits (Bits bits) = AreBits bits.now
+HasBits (Number n) = Unit {0}

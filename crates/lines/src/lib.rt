@@ -2,9 +2,7 @@
 
 #![tactic(auto)]
 
-mod checks;
-mod decimals;
 mod lines;
-mod putting;
+mod pieces;
 
 pub use lines::{end_line, refused_line, roll_line, stop_line, word_line};

@@ -1,0 +1,105 @@
+// The pieces of a line, one after another.
+ghost use Rattle.std.specs.Prelude.{◌≡◌, ◌+◌, ◌<◌, ◌≤◌, ◌^◌, ◌++◌, map, length, drop, None, IfOk};
+ghost use Rattle.std.specs.List.{AllByRecursion};
+ghost use Rattle.polynomials.specs.Messages.{Bits};
+ghost use Rattle.words.specs.Refusals.{refusal_of, room_row};
+ghost use Rattle.lines.specs.Pieces.{bytes_of, text, HasBits};
+ghost use Rattle.lines.specs.Rows.{Wrote};
+
+use itoa::Buffer;
+use words::{Refusal, check_room};
+
+// A piece of a line.
+#[derive(Clone, Copy)]
+pub(crate) enum Piece<'a> {
+    // Bytes as they are.
+    Bytes(&'a [u8]),
+    // Bits as the digits 0 and 1.
+    Bits(&'a [u8]),
+    // A number in decimal digits.
+    Number(u64),
+}
+
+impl<'a> Piece<'a> {
+    // How many bytes it has.
+    fn len(&self) -> usize
+        ensures { result ≡ length (bytes_of self.now) }
+    {
+        match self {
+            Piece::Bytes(bytes) => bytes.len(),
+            Piece::Bits(bits) => bits.len(),
+            Piece::Number(n) => Buffer::new().format(*n).len(),
+        }
+    }
+
+    // Puts it into the front of the buffer, and answers how many bytes it has.
+    fn put(&self, line: &mut [u8]) -> usize
+        requires bits { HasBits self.now }
+        requires room { length (bytes_of self.now) ≤ length line.old }
+        ensures after { result ≡ length (bytes_of self.now) }
+        ensures put { line.new ≡ bytes_of self.now ++ drop result line.old }
+    {
+        match self {
+            Piece::Bytes(bytes) => put_bytes(bytes, line),
+            Piece::Bits(bits) => put_bits(bits, line),
+            Piece::Number(n) => put_bytes(Buffer::new().format(*n).as_bytes(), line),
+        }
+    }
+}
+
+// Puts bytes into the front of the buffer, and answers how many they are.
+fn put_bytes(bytes: &[u8], line: &mut [u8]) -> usize
+    requires room { length bytes.now ≤ length line.old }
+    ensures after { result ≡ length bytes.now }
+    ensures put { line.new ≡ bytes.now ++ drop result line.old }
+{
+    line[..bytes.len()].copy_from_slice(bytes);
+    bytes.len()
+}
+
+// Puts bits as the digits 0 and 1 into the front of the buffer, and answers how many they are.
+fn put_bits(bits: &[u8], line: &mut [u8]) -> usize
+    requires bits { Bits bits.now }
+    requires room { length bits.now ≤ length line.old }
+    ensures after { result ≡ length bits.now }
+    ensures put { line.new ≡ map (λ b. 48 + b) bits.now ++ drop result line.old }
+{
+    for (i, bit) in bits.iter().enumerate() {
+        line[i] = b'0' + *bit;
+    }
+    bits.len()
+}
+
+// How many bytes the pieces have together.
+pub(crate) fn length(pieces: &[Piece]) -> usize
+    requires { length (text pieces.now) < 2 ^ 64 }
+    ensures { result ≡ length (text pieces.now) }
+{
+    pieces.iter().map(|piece| piece.len()).sum()
+}
+
+// Puts the pieces into the front of the buffer, and answers how many bytes they have together.
+pub(crate) fn put(pieces: &[Piece], line: &mut [u8]) -> usize
+    requires bits { AllByRecursion HasBits pieces.now }
+    requires room { length (text pieces.now) ≤ length line.old }
+    ensures after { result ≡ length (text pieces.now) }
+    ensures put { line.new ≡ text pieces.now ++ drop result line.old }
+{
+    let mut end = 0;
+    for piece in pieces {
+        end += piece.put(&mut line[end..]);
+    }
+    end
+}
+
+// Writes the pieces as a line into the front of the buffer, where they have room, and answers the line's length.
+pub(crate) fn write(pieces: &[Piece], line: &mut [u8]) -> Result<usize, Refusal>
+    requires bits { AllByRecursion HasBits pieces.now }
+    requires long { length (text pieces.now) < 2 ^ 64 }
+    ensures refused { refusal_of result ≡ room_row (length line.old) (length (text pieces.now)) None }
+    ensures written { Wrote (text pieces.now) line.old line.new result }
+    ensures bound { IfOk result (λ n. n ≤ length line.old) }
+{
+    check_room(line.len(), length(pieces))?;
+    Ok(put(pieces, line))
+}
