@@ -1,9 +1,7 @@
 // The pieces of a line, one after another.
 ghost use Rattle.std.specs.Prelude.{◌≡◌, ◌+◌, ◌<◌, ◌≤◌, ◌^◌, ◌++◌, map, length, drop, None, IfOk};
-ghost use Rattle.std.specs.List.{AllByRecursion};
-ghost use Rattle.polynomials.specs.Messages.{Bits};
 ghost use Rattle.words.specs.Refusals.{refusal_of, room_row};
-ghost use Rattle.lines.specs.Pieces.{bytes_of, text, HasBits};
+ghost use Rattle.lines.specs.Pieces.{digit, bytes_of, text};
 ghost use Rattle.lines.specs.Rows.{Wrote};
 
 use itoa::Buffer;
@@ -34,8 +32,7 @@ impl<'a> Piece<'a> {
 
     // Puts it into the front of the buffer, and answers how many bytes it has.
     fn put(&self, line: &mut [u8]) -> usize
-        requires bits { HasBits self.now }
-        requires room { length (bytes_of self.now) ≤ length line.old }
+        requires { length (bytes_of self.now) ≤ length line.old }
         ensures after { result ≡ length (bytes_of self.now) }
         ensures put { line.new ≡ bytes_of self.now ++ drop result line.old }
     {
@@ -59,13 +56,12 @@ fn put_bytes(bytes: &[u8], line: &mut [u8]) -> usize
 
 // Puts bits as the digits 0 and 1 into the front of the buffer, and answers how many they are.
 fn put_bits(bits: &[u8], line: &mut [u8]) -> usize
-    requires bits { Bits bits.now }
-    requires room { length bits.now ≤ length line.old }
+    requires { length bits.now ≤ length line.old }
     ensures after { result ≡ length bits.now }
-    ensures put { line.new ≡ map (λ b. 48 + b) bits.now ++ drop result line.old }
+    ensures put { line.new ≡ map digit bits.now ++ drop result line.old }
 {
     for (i, bit) in bits.iter().enumerate() {
-        line[i] = b'0' + *bit;
+        line[i] = if *bit == 0 { b'0' } else { b'1' };
     }
     bits.len()
 }
@@ -80,8 +76,7 @@ pub(crate) fn length(pieces: &[Piece]) -> usize
 
 // Puts the pieces into the front of the buffer, and answers how many bytes they have together.
 pub(crate) fn put(pieces: &[Piece], line: &mut [u8]) -> usize
-    requires bits { AllByRecursion HasBits pieces.now }
-    requires room { length (text pieces.now) ≤ length line.old }
+    requires { length (text pieces.now) ≤ length line.old }
     ensures after { result ≡ length (text pieces.now) }
     ensures put { line.new ≡ text pieces.now ++ drop result line.old }
 {
@@ -94,8 +89,7 @@ pub(crate) fn put(pieces: &[Piece], line: &mut [u8]) -> usize
 
 // Writes the pieces as a line into the front of the buffer, where they have room, and answers the line's length.
 pub(crate) fn write(pieces: &[Piece], line: &mut [u8]) -> Result<usize, Refusal>
-    requires bits { AllByRecursion HasBits pieces.now }
-    requires long { length (text pieces.now) < 2 ^ 64 }
+    requires { length (text pieces.now) < 2 ^ 64 }
     ensures refused { refusal_of result ≡ room_row (length line.old) (length (text pieces.now)) None }
     ensures written { Wrote (text pieces.now) line.old line.new result }
     ensures bound { IfOk result (λ n. n ≤ length line.old) }
