@@ -1,5 +1,5 @@
 -- One piece more, put into the rest of a buffer after the pieces before it.
-use Rattle.std.proofs.Common.{◌≡◌, ℕ, ◌+◌, ◌-◌, ◌<◌, ◌≤◌, List, [], ◌∷◌, ◌++◌, length, get_or, take, drop, sym, refl, ap, ◌∙◌, arith}
+use Rattle.std.proofs.Common.{◌≡◌, ℕ, ◌+◌, ◌-◌, ◌<◌, ◌≤◌, List, [], ◌++◌, length, get_or, take, drop, sym, refl, ap, ◌∙◌, arith}
 use Rattle.std.proofs.lemmas.List.{append_assoc, append-nil, take_all, drop_all, take_at, drop_at, take_more, drop-drop, length-append, length-drop, length-take}
 use Rattle.std.proofs.lemmas.List.Concat.{flat_map-append}
 use Rattle.std.proofs.lemmas.List.Folds.{length-flat_map-take}
@@ -24,8 +24,7 @@ module _ (pieces : List Piece) (i end : ℕ) (d : Piece) (line : List ℕ) (more
       let before : take end line ≡ text (take i pieces) = ap (take end) front ∙ take_at (text (take i pieces)) _ end (sym here) in
       let rest : drop end line ≡ drop end first = ap (drop end) front ∙ drop_at (text (take i pieces)) _ end (sym here) in
       let whole : take k (drop end line) ≡ drop end line = take_all k (drop end line) (omega (arith, length-drop end line)) in
-      let after : drop k (drop end line) ≡ [] = drop_all k (drop end line) (omega (arith, length-drop end line)) in
-      (
+      let after : drop k (drop end line) ≡ [] = drop_all k (drop end line) (omega (arith, length-drop end line)) in (
         omega (arith, ap length text_more, length-append (text (take i pieces)) (bytes_of (get_or pieces i d))),
         rw (put, before, after, whole, rest, append-nil, drop-drop, text_more, append_assoc) refl,
       )

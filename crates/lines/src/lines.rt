@@ -1,5 +1,5 @@
 // The calls, one for each line. docs/LINES.md shows what the lines look like.
-#![tactic(auto, using(crate::proofs::Numbers::numbers))]
+#![tactic(auto, using(crate::proofs::Numbers::numbers, crate::proofs::Digits::digits_bits))]
 
 ghost use Rattle.std.specs.Prelude.{◌≡◌, ◌≤◌, length, IfOk, None};
 ghost use Rattle.formats.specs.Decimals.{Decimals};

@@ -71,7 +71,7 @@ pub(crate) fn length(pieces: &[Piece]) -> usize
     requires { length (text pieces.now) < 2 ^ 64 }
     ensures { result ≡ length (text pieces.now) }
 {
-    pieces.iter().map(|piece| piece.len()).sum()
+    pieces.iter().map(Piece::len).sum()
 }
 
 // Puts the pieces into the front of the buffer, and answers how many bytes they have together.
