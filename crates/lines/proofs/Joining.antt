@@ -12,6 +12,7 @@ module _ (pieces : List Piece) (i end : ℕ) (d : Piece) (line : List ℕ) (more
   pub rest_room : length (text pieces) ≤ length line → length (bytes_of (get_or pieces i d)) ≤ length (take (length line - end) (drop end line))
   rest_room room = simp (length-take, length-drop) (omega (arith, length-flat_map-take bytes_of pieces i d more))
 
+  -- the text of the pieces grows by the piece
   text_more : text (take (i + 1) pieces) ≡ text (take i pieces) ++ bytes_of (get_or pieces i d)
   text_more = rw (take_more pieces i d more, flat_map-append, append-nil) refl
 

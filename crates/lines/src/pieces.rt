@@ -1,5 +1,5 @@
 // The pieces of a line, one after another.
-ghost use Rattle.std.specs.Prelude.{◌≡◌, ◌+◌, ◌<◌, ◌≤◌, ◌^◌, ◌++◌, map, length, drop, None, IfOk};
+ghost use Rattle.std.specs.Prelude.{◌≡◌, ◌<◌, ◌≤◌, ◌^◌, ◌++◌, map, length, drop, None, IfOk};
 ghost use Rattle.words.specs.Refusals.{refusal_of, room_row};
 ghost use Rattle.lines.specs.Pieces.{digit, bytes_of, text};
 ghost use Rattle.lines.specs.Rows.{Wrote};
@@ -18,7 +18,7 @@ pub(crate) enum Piece<'a> {
     Number(u64),
 }
 
-impl<'a> Piece<'a> {
+impl Piece<'_> {
     // How many bytes it has.
     fn len(&self) -> usize
         ensures { result ≡ length (bytes_of self.now) }
@@ -46,7 +46,7 @@ impl<'a> Piece<'a> {
 
 // Puts bytes into the front of the buffer, and answers how many they are.
 fn put_bytes(bytes: &[u8], line: &mut [u8]) -> usize
-    requires room { length bytes.now ≤ length line.old }
+    requires { length bytes.now ≤ length line.old }
     ensures after { result ≡ length bytes.now }
     ensures put { line.new ≡ bytes.now ++ drop result line.old }
 {
