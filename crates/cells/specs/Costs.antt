@@ -1,5 +1,5 @@
 -- The cost of a word under weights.
-use Rattle.std.specs.Prelude.{◌≡◌, ℕ, suc, ◌^◌, ◌≤◌, cond, not, List, map, length, ℤ, pos, negsuc, Some, Option, ◌==◌, nat_lt, slice_index, slice_index_or, unsigned_abs}
+use Rattle.std.specs.Prelude.{◌≡◌, ℕ, suc, ◌^◌, ◌≤◌, if◌then◌else◌, not, List, map, length, ℤ, pos, negsuc, Some, Option, ◌==◌, nat_lt, slice_index, slice_index_or, unsigned_abs}
 use Rattle.std.specs.List.{AllByRecursion}
 use Rattle.polynomials.specs.Sums.{total}
 use Rattle.polynomials.specs.Words.{Table}
@@ -10,8 +10,8 @@ use Rattle.cells.specs.Bits.{bit_reading}
 
 -- what a word with this bit at a cell pays there: the size of the weight that it contradicts, a positive one by 1 and a negative one by 0
 abbrev pub pays : ℤ → ℕ → ℕ
-pays (pos w) bit = cond (bit == 1) w 0
-pays (negsuc w) bit = cond (bit == 0) (suc w) 0
+pays (pos w) bit = if bit == 1 then w else 0
+pays (negsuc w) bit = if bit == 0 then suc w else 0
 
 -- the cost of a word of m variables: what it pays at all its points
 abbrev pub cost : ℕ → List ℤ → List ℕ → ℕ
@@ -23,15 +23,15 @@ Within T m weights word = cost m weights word ≤ T
 
 -- the Hamming distance: at how many points two tables of m variables differ
 abbrev pub distance : ℕ → List ℕ → List ℕ → ℕ
-distance m a b = total (2 ^ m) (λ point. cond (slice_index a point == slice_index b point) 0 1)
+distance m a b = total (2 ^ m) (λ point. if slice_index a point == slice_index b point then 0 else 1)
 
 -- the first row that holds at cost
 abbrev pub cost_row : ℕ → List ℤ → List ℕ → Option Told
 cost_row m weights word =
-    cond (nat_lt 8 m) (Some (row 1))
-    (cond (not (length weights == 2 ^ m)) (Some (row 6))
-    (cond (not (length word == 2 ^ m)) (Some (row 6))
-    (byte_row 0 word)))
+    if nat_lt 8 m then Some (row 1)
+    else if not (length weights == 2 ^ m) then Some (row 6)
+    else if not (length word == 2 ^ m) then Some (row 6)
+    else byte_row 0 word
 
 -- with bit cells the cost of a word is its distance from the cells
 abbrev pub CostIsDistance : Type 0

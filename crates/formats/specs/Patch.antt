@@ -1,5 +1,5 @@
 -- The patch file: what its bytes say, and the first row that refuses it.
-use Rattle.std.specs.Prelude.{◌≡◌, ℕ, ◌+◌, ◌*◌, ◌^◌, min, max, Bool, cond, not, ◌&&◌, List, length, Some, None, Option, ◌==◌, nat_le, nat_lt, slice_index}
+use Rattle.std.specs.Prelude.{◌≡◌, ℕ, ◌+◌, ◌*◌, ◌^◌, min, max, Bool, if◌then◌else◌, not, ◌&&◌, List, length, Some, None, Option, ◌==◌, nat_le, nat_lt, slice_index}
 use Rattle.formats.specs.Putting.{part}
 use Rattle.formats.specs.Packing.{bytes_needed, unpacked, unused}
 
@@ -57,22 +57,22 @@ placed size place long place' long' = lies size place long && lies size place' l
 
 -- row 13, the file's length, and then the rows after it
 abbrev pub length_row : List ℕ → Option ℕ → Option ℕ
-length_row file later = cond (not (nat_le 12 (length file) && nat_le (length file) 4096)) (Some 13) later
+length_row file later = if not (nat_le 12 (length file) && nat_le (length file) 4096) then Some 13 else later
 
 -- the rows of the file's length, its sizes and its places, and then the rows after them
 abbrev pub header_row : List ℕ → Option ℕ → Option ℕ
 header_row file later =
     length_row file
-    (cond (nat_lt 8 (variables file)) (Some 1)
-    (cond (nat_lt (variables file) (order file)) (Some 2)
-    (cond (nat_lt 32512 (radius file)) (Some 3)
-    (cond (not (count file == 2 ^ variables file)) (Some 6)
-    (cond (not (placed (length file) (place_of_cells file) (bytes_needed (2 ^ variables file)) (place_of_name file) (length_of_name file))) (Some 14)
-    later)))))
+    (if nat_lt 8 (variables file) then Some 1
+    else if nat_lt (variables file) (order file) then Some 2
+    else if nat_lt 32512 (radius file) then Some 3
+    else if not (count file == 2 ^ variables file) then Some 6
+    else if not (placed (length file) (place_of_cells file) (bytes_needed (2 ^ variables file)) (place_of_name file) (length_of_name file)) then Some 14
+    else later)
 
 -- row 15: an unused bit of the last byte of the cells of m variables is 1
 abbrev pub unused_row : ℕ → List ℕ → Option ℕ
-unused_row m bytes = cond (not (unused (2 ^ m) bytes == 0)) (Some 15) None
+unused_row m bytes = if not (unused (2 ^ m) bytes == 0) then Some 15 else None
 
 -- the first row that refuses the file
 abbrev pub patch_row : List ℕ → Option ℕ

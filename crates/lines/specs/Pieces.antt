@@ -1,12 +1,12 @@
 -- The pieces of a line, and their bytes.
-use Rattle.std.specs.Prelude.{ℕ, List, cond, ◌==◌, map, decimal}
+use Rattle.std.specs.Prelude.{ℕ, List, if◌then◌else◌, ◌==◌, map, decimal}
 use Rattle.std.specs.List.{flat_map}
 use Rattle.lines.specs.declared.pieces.Piece.{Piece}
 use Rattle.lines.specs.declared.pieces.Piece.TheVariants.{Bytes, Bits, Number}
 
 -- a bit as a digit
 abbrev pub digit : ℕ → ℕ
-digit b = cond (b == 0) 48 49
+digit b = if b == 0 then 48 else 49
 
 -- the bytes of a piece
 abbrev pub bytes_of : Piece → List ℕ

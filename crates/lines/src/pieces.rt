@@ -60,6 +60,7 @@ fn put_bits(bits: &[u8], line: &mut [u8]) -> usize
     ensures after { result ≡ length bits.now }
     ensures put { line.new ≡ map digit bits.now ++ drop result line.old }
 {
+    // By place: after a zip with `iter_mut` the proof knows no byte of the buffer.
     for (i, bit) in bits.iter().enumerate() {
         line[i] = if *bit == 0 { b'0' } else { b'1' };
     }

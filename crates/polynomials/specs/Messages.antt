@@ -1,5 +1,5 @@
 -- Messages: the coefficients of a polynomial in prefix order.
-use Rattle.std.specs.Prelude.{◌≡◌, ℕ, ◌<◌, Bool, false, cond, List, [], ◌∷◌, length, ◌==◌, nat_lt}
+use Rattle.std.specs.Prelude.{◌≡◌, ℕ, ◌<◌, Bool, false, if◌then◌else◌, List, [], ◌∷◌, length, ◌==◌, nat_lt}
 use Rattle.std.specs.List.{AllByRecursion}
 use Rattle.polynomials.specs.Binomials.{dimension}
 
@@ -16,4 +16,4 @@ pub record Message (m r : ℕ) (message : List ℕ) : Type 0 where
 abbrev pub earlier : List ℕ → List ℕ → Bool
 earlier [] ys = false
 earlier (x ∷ xs) [] = false
-earlier (x ∷ xs) (y ∷ ys) = cond (x == y) (earlier xs ys) (nat_lt x y)
+earlier (x ∷ xs) (y ∷ ys) = if x == y then earlier xs ys else nat_lt x y

@@ -1,6 +1,6 @@
 -- Points and monomials. A point gives each of the variables x1 to xm the value 0 or 1: it is the number below 2 ^ m whose m binary digits are
 -- these values, x1 the highest. A monomial is a set of variables, numbered alike: a variable's digit is 1 where it is in the set.
-use Rattle.std.specs.Prelude.{ℕ, zero, suc, ◌^◌, Bool, cond, List, [], ◌∷◌, filter, ◌==◌, bit_and, count_ones, nat_le}
+use Rattle.std.specs.Prelude.{ℕ, zero, suc, ◌^◌, Bool, if◌then◌else◌, List, [], ◌∷◌, filter, ◌==◌, bit_and, count_ones, nat_le}
 
 -- the numbers below n, from the highest down
 abbrev pub down : ℕ → List ℕ
@@ -21,4 +21,4 @@ inside a b = bit_and a b == a
 
 -- the value of a monomial at a point
 unfoldable pub value : ℕ → ℕ → ℕ
-value mono point = cond (inside mono point) 1 0
+value mono point = if inside mono point then 1 else 0

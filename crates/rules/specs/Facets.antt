@@ -1,5 +1,5 @@
 -- The facet rule: what the monomials that a prefix has settled say of the points that agree in their low digits.
-use Rattle.std.specs.Prelude.{ℕ, zero, suc, ◌+◌, ◌-◌, ◌*◌, ◌/◌, ◌%◌, ◌^◌, cond, leb, List, length, ℤ, pos, ◌+ℤ◌, neg_ℤ, filter, ◌==◌, nat_le, slice_index_or, unsigned_abs}
+use Rattle.std.specs.Prelude.{ℕ, zero, suc, ◌+◌, ◌-◌, ◌*◌, ◌/◌, ◌%◌, ◌^◌, if◌then◌else◌, leb, List, length, ℤ, pos, ◌+ℤ◌, neg_ℤ, filter, ◌==◌, nat_le, slice_index_or, unsigned_abs}
 use Rattle.polynomials.specs.Sums.{total}
 use Rattle.polynomials.specs.Monomials.{monomials}
 use Rattle.polynomials.specs.Words.{sum_at}
@@ -16,7 +16,7 @@ weight_at weights point = slice_index_or weights point (pos 0)
 
 -- a weight, with its sign changed where the sum q is 1 modulo 2
 unfoldable pub turned : ℕ → ℤ → ℤ
-turned q weight = cond (q % 2 == 0) weight (neg_ℤ weight)
+turned q weight = if q % 2 == 0 then weight else neg_ℤ weight
 
 -- the admitted monomials numbered 2 ^ d or more; in prefix order they come first
 abbrev pub upper : ℕ → ℕ → ℕ → List ℕ
@@ -25,7 +25,7 @@ upper m r d = filter (leb (2 ^ d)) (monomials m r)
 -- the least of 0 .. d such that the admitted monomials with that many low digits left open are among the first j
 abbrev pub least_open : ℕ → ℕ → ℕ → ℕ → ℕ
 least_open m r j zero = 0
-least_open m r j (suc d) = cond (nat_le (length (upper m r d)) j) (least_open m r j d) (suc d)
+least_open m r j (suc d) = if nat_le (length (upper m r d)) j then least_open m r j d else suc d
 
 -- how many low digits a prefix of j bytes leaves open
 abbrev pub open_digits : ℕ → ℕ → ℕ → ℕ
@@ -47,4 +47,4 @@ folded_sizes m r weights prefix d = total (2 ^ d) (λ a. unsigned_abs (folded m 
 -- the facet rule: half of what folding takes away from the sizes
 unfoldable pub facet : Rule
 facet m r weights prefix =
-    cond (answerable m r weights prefix) ((sizes m weights - folded_sizes m r weights prefix (open_digits m r (length prefix))) / 2) 0
+    if answerable m r weights prefix then (sizes m weights - folded_sizes m r weights prefix (open_digits m r (length prefix))) / 2 else 0

@@ -1,5 +1,5 @@
 -- The first row that holds at each call of a reader.
-use Rattle.std.specs.Prelude.{ℕ, ◌^◌, cond, not, List, length, ℤ, Some, None, Option, ◌==◌, nat_lt}
+use Rattle.std.specs.Prelude.{ℕ, ◌^◌, if◌then◌else◌, not, List, length, ℤ, Some, None, Option, ◌==◌, nat_lt}
 use Rattle.polynomials.specs.Binomials.{dimension}
 use Rattle.words.specs.Refusals.{Told, row, size_row, room_row}
 use Rattle.cells.specs.Readings.{Reading, cell_row}
@@ -7,7 +7,7 @@ use Rattle.runs.specs.Traces.{Shape}
 
 -- row 3, a radius above 32,512, and then the rows after it
 abbrev pub wide_row : ℕ → Option Told → Option Told
-wide_row T later = cond (nat_lt 32512 T) (Some (row 3)) later
+wide_row T later = if nat_lt 32512 T then Some (row 3) else later
 
 -- row 4, a reader that is not set, and then the rows after it, by the sizes that are set
 abbrev pub unset_row : Option Shape → (Shape → Option Told) → Option Told
@@ -29,7 +29,7 @@ radius_row shape T = wide_row T (unset_row shape (λ _. None))
 
 -- the first row that holds at load: as many cells as points, and then the first cell that has no weight
 abbrev pub load_row : Option Shape → List Reading → Option Told
-load_row shape readings = unset_row shape (λ s. cond (not (length readings == 2 ^ s.m)) (Some (row 6)) (cell_row 0 readings))
+load_row shape readings = unset_row shape (λ s. if not (length readings == 2 ^ s.m) then Some (row 6) else cell_row 0 readings)
 
 -- the first row that holds at rewind
 abbrev pub rewind_row : Option Shape → Option (List ℤ) → Option Told

@@ -1,5 +1,5 @@
 -- Traces: the calls that a new reader got, each with its arguments, its answer and its buffer; and what is in force after them.
-use Rattle.std.specs.Prelude.{ℕ, Bool, true, false, cond, List, [], ◌∷◌, map, take, ℤ, Some, None, Option}
+use Rattle.std.specs.Prelude.{ℕ, Bool, true, false, if◌then◌else◌, List, [], ◌∷◌, map, take, ℤ, Some, None, Option}
 use Rattle.polynomials.specs.Binomials.{dimension}
 use Rattle.words.specs.Refusals.{Told}
 use Rattle.cells.specs.Readings.{Reading, weight_or_0}
@@ -43,7 +43,7 @@ accepted waiting = false
 
 -- the number of variables and the order after a call, by those before it and by whether it was accepted
 abbrev pub shape_after : Call → Bool → Option Shape → Option Shape
-shape_after (set_call m r T) ok before = cond ok (Some (record { m = m; r = r })) before
+shape_after (set_call m r T) ok before = if ok then Some (record { m = m; r = r }) else before
 shape_after (radius_call T) ok before = before
 shape_after (load_call readings) ok before = before
 shape_after rewind_call ok before = before
@@ -56,8 +56,8 @@ shape_of (event call answer after ∷ h) = shape_after call (accepted answer) (s
 
 -- the radius after a call
 abbrev pub radius_after : Call → Bool → ℕ → ℕ
-radius_after (set_call m r T) ok before = cond ok T before
-radius_after (radius_call T) ok before = cond ok T before
+radius_after (set_call m r T) ok before = if ok then T else before
+radius_after (radius_call T) ok before = if ok then T else before
 radius_after (load_call readings) ok before = before
 radius_after rewind_call ok before = before
 radius_after (next_call rule bytes) ok before = before
@@ -69,9 +69,9 @@ radius_of (event call answer after ∷ h) = radius_after call (accepted answer) 
 
 -- the weights after a call
 abbrev pub weights_after : Call → Bool → Option (List ℤ) → Option (List ℤ)
-weights_after (set_call m r T) ok before = cond ok None before
+weights_after (set_call m r T) ok before = if ok then None else before
 weights_after (radius_call T) ok before = before
-weights_after (load_call readings) ok before = cond ok (Some (map weight_or_0 readings)) before
+weights_after (load_call readings) ok before = if ok then Some (map weight_or_0 readings) else before
 weights_after rewind_call ok before = before
 weights_after (next_call rule bytes) ok before = before
 
@@ -95,10 +95,10 @@ handed_by waiting message before = before
 
 -- the messages handed out after a call, by its answer, by the message that its buffer has in front, and by those before it
 abbrev pub handed_after : Call → Answer → List ℕ → List (List ℕ) → List (List ℕ)
-handed_after (set_call m r T) answer message before = cond (accepted answer) [] before
-handed_after (radius_call T) answer message before = cond (accepted answer) [] before
-handed_after (load_call readings) answer message before = cond (accepted answer) [] before
-handed_after rewind_call answer message before = cond (accepted answer) [] before
+handed_after (set_call m r T) answer message before = if accepted answer then [] else before
+handed_after (radius_call T) answer message before = if accepted answer then [] else before
+handed_after (load_call readings) answer message before = if accepted answer then [] else before
+handed_after rewind_call answer message before = if accepted answer then [] else before
 handed_after (next_call rule bytes) answer message before = handed_by answer message before
 
 -- the messages handed out since the last start, the newest first; a start is an accepted set, radius, load or rewind

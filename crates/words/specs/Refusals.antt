@@ -1,5 +1,5 @@
 -- Refusals: what each tells, and the first row that holds at each call.
-use Rattle.std.specs.Prelude.{◌≡◌, ℕ, ◌+◌, ◌^◌, cond, not, ◌⊎◌, List, [], ◌∷◌, length, Some, None, Ok, Err, Option, Result, ◌==◌, nat_lt, Float}
+use Rattle.std.specs.Prelude.{◌≡◌, ℕ, ◌+◌, ◌^◌, if◌then◌else◌, not, ◌⊎◌, List, [], ◌∷◌, length, Some, None, Ok, Err, Option, Result, ◌==◌, nat_lt, Float}
 use Rattle.polynomials.specs.Binomials.{dimension}
 use Rattle.polynomials.specs.Words.{Encodes}
 use Rattle.words.specs.declared.refusals.Fault.{Fault}
@@ -59,25 +59,25 @@ refusal_of (Err e) = Some (told e)
 
 -- row 1, the number of variables, and then the rows after it
 abbrev pub variables_row : ℕ → Option Told → Option Told
-variables_row m later = cond (nat_lt 8 m) (Some (row 1)) later
+variables_row m later = if nat_lt 8 m then Some (row 1) else later
 
 -- rows 1 and 2, the number of variables and the order, and then the rows after them
 abbrev pub size_row : ℕ → ℕ → Option Told → Option Told
-size_row m r later = variables_row m (cond (nat_lt m r) (Some (row 2)) later)
+size_row m r later = variables_row m (if nat_lt m r then Some (row 2) else later)
 
 -- row 7, a buffer with less room than is needed, and then the rows after it
 abbrev pub room_row : ℕ → ℕ → Option Told → Option Told
-room_row room needed later = cond (nat_lt room needed) (Some (row 7)) later
+room_row room needed later = if nat_lt room needed then Some (row 7) else later
 
 -- row 8: the first byte above 1, where the first of the bytes stands at this place
 abbrev pub byte_row : ℕ → List ℕ → Option Told
 byte_row place [] = None
-byte_row place (b ∷ bs) = cond (nat_lt 1 b) (Some (row_at 8 place (byte b))) (byte_row (place + 1) bs)
+byte_row place (b ∷ bs) = if nat_lt 1 b then Some (row_at 8 place (byte b)) else byte_row (place + 1) bs
 
 -- rows 6, 7 and 8: bytes that should be so many and 0 or 1 each, and a buffer's room with what it needs
 abbrev pub bytes_row : List ℕ → ℕ → ℕ → ℕ → Option Told
 bytes_row bytes asked room needed =
-    cond (not (length bytes == asked)) (Some (row 6)) (room_row room needed (byte_row 0 bytes))
+    if not (length bytes == asked) then Some (row 6) else room_row room needed (byte_row 0 bytes)
 
 -- the first row that holds at dimension
 abbrev pub dimension_row : ℕ → ℕ → Option Told
