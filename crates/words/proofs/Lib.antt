@@ -1,6 +1,6 @@
-pub mod Bytes
 pub mod Each
 pub mod Folding
 pub mod Gathering
 pub mod Rows
 pub mod Shortness
+pub mod Written

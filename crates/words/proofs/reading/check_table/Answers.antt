@@ -11,14 +11,9 @@ returns-then-not-is_low-clause-refused c =
     let high : Degree≤ c.args.m c.args.r c.args.table.now → ⊥ = search rules in
     inr (passed, refl, λ message e. high (encodes_low_degree _ _ message _ e))
 
-pub returns : goal.returns
-returns c =
+pub returns-clause-refused : goal.returns-clause-refused
+returns-clause-refused c =
     let passed : table_row c.args.m c.args.r c.args.table.now c.args.room ≡ None = search rules in
     let table : Table c.args.m c.args.table.now = search rules in
     let low : Degree≤ c.args.m c.args.r c.args.table.now = search rules in
-    record {
-      refused = (passed, (coefficients c.args.m c.args.r c.args.table.now, encodes_coefficients _ _ _ table low));
-      sizes = search rules;
-      word = (table, low);
-      code = search rules;
-    }
+    (passed, (coefficients c.args.m c.args.r c.args.table.now, encodes_coefficients _ _ _ table low))

@@ -1,12 +1,13 @@
-use Rattle.std.proofs.Common.{◌≡◌, length, take, drop, sym, ap, ap₂, ◌∙◌, subst, ◌++◌}
-use Rattle.std.proofs.lemmas.List.{take_at, drop_at}
+use Rattle.std.proofs.Common.{◌≡◌, ◌++◌, take, drop, sym, rules}
+use Rattle.std.proofs.lemmas.List.{drop_at}
 use Rattle.std.proofs.lemmas.Result.{err_from_is_err_and}
 use Rattle.polynomials.specs.Binomials.{dimension}
 use Rattle.polynomials.specs.Words.{ReadsBack}
 use Rattle.polynomials.specs.Coefficients.{coefficients}
 use Rattle.polynomials.proofs.Inversion.{inversion}
-use Rattle.polynomials.proofs.Reading.{coefficients_message, encodes_coefficients, words_differ, words_are_low_degree}
+use Rattle.polynomials.proofs.Reading.{coefficients_message, words_are_low_degree}
 use Rattle.words.proofs.Rows.{row_10_degree, word_readable}
+use Rattle.words.proofs.Written.{message_in_front}
 use Rattle.words.proofs.reading.read_back.Goals as goal
 
 pub returns-in_err-code-clause-degree : goal.returns-in_err-code-clause-degree
@@ -25,31 +26,24 @@ returns-in_err-code-clause-law c = words_are_low_degree
 pub returns-in_err-code-clause-inversion : goal.returns-in_err-code-clause-inversion
 returns-in_err-code-clause-inversion c = inversion
 
-pub returns : goal.returns
-returns c =
-    let ok = c.in_ok-code.ensures in
-    let m = ok.code.0 in
-    let r = ok.code.1 in
-    let k : c.dimension-k.result ≡ dimension c.args.m c.args.r = c.dimension-k.ensures.value ∙ ap₂ dimension m r in
-    let found = coefficients c.args.m c.args.r c.args.table.now in
-    let written : c.write_message.new.message ≡ found ++ drop (dimension c.args.m c.args.r) c.args.message.now
-    = c.write_message.ensures ∙ ap₂ (λ m r. coefficients m r c.args.table.now ++ drop (dimension m r) c.args.message.now) m r in
-    let long : length found ≡ c.dimension-k.result = (coefficients_message c.args.m c.args.r c.args.table.now).long ∙ sym k in
-    let front : take c.dimension-k.result c.write_message.new.message ≡ found
-    = ap (take c.dimension-k.result) written ∙ take_at found _ _ long in
+pub returns-clause-written : goal.returns-clause-written
+returns-clause-written c =
+    let table = c.args.table.now in
+    let k : c.dimension-k.result ≡ dimension c.args.m c.args.r = search rules in
+    let written : c.write_message.new.message ≡ coefficients c.args.m c.args.r table ++ drop (dimension c.args.m c.args.r) c.args.message.now = search rules in (
+      k,
+      message_in_front c.args.m c.args.r c.args.message.now _ _ table k written c.in_ok-code.ensures.word.0 c.in_ok-code.ensures.word.1,
+      rw (k, written) (drop_at (coefficients c.args.m c.args.r table) _ _ (coefficients_message c.args.m c.args.r table).long),
+    )
+
+pub returns-clause-undoes_encode : goal.returns-clause-undoes_encode
+returns-clause-undoes_encode c =
     let reads : ReadsBack c.args.m c.args.r c.args.table.now (take c.dimension-k.result c.write_message.new.message)
-    = subst (ReadsBack c.args.m c.args.r c.args.table.now) (sym front)
-    (words_differ _ _ _ _ (encodes_coefficients _ _ _ ok.word.0 ok.word.1)) in
-    record {
-      refused = ok.refused;
-      written = (
-        k,
-        reads,
-        ap (drop c.dimension-k.result) written ∙ drop_at found _ _ long ∙ ap (λ n. drop n c.args.message.now) (sym k),
-      );
-      bound = rw k ok.sizes.1;
-      degree = ok.word.1;
-      undoes_encode = λ sent e few low long. sym (reads.only sent e);
-      law = words_are_low_degree;
-      inversion = inversion;
-    }
+    = message_in_front c.args.m c.args.r c.args.message.now _ _ c.args.table.now (search rules) (search rules) c.in_ok-code.ensures.word.0 c.in_ok-code.ensures.word.1 in
+    λ sent e few low long. sym (reads.only sent e)
+
+pub returns-clause-law : goal.returns-clause-law
+returns-clause-law c = words_are_low_degree
+
+pub returns-clause-inversion : goal.returns-clause-inversion
+returns-clause-inversion c = inversion
