@@ -5,8 +5,8 @@
 mod bit;
 mod cell;
 mod costs;
-mod either;
 mod pixel;
+mod two_kinds;
 mod weighing;
 
 pub use bit::Bit;

@@ -7,7 +7,7 @@ mod estimate;
 mod greater;
 mod plain;
 
-pub use choice::Choice;
+pub use either::Either;
 pub use estimate::Estimate;
 pub use greater::Greater;
 pub use plain::Plain;
