@@ -2,3 +2,4 @@ pub mod Scanning
 pub mod Mapping
 pub mod Weights
 pub mod Distances
+pub mod Pairs

@@ -11,24 +11,10 @@ fn pay(weight: i8, bit: u8) -> u32
     ensures bound { result ≤ 128 }
 {
     if (weight > 0 && bit == 1) || (weight < 0 && bit == 0) {
-        weight.unsigned_abs() as u32
+        u32::from(weight.unsigned_abs())
     } else {
         0
     }
-}
-
-// What a word pays at all its points.
-fn sum_up(m: u32, weights: &[i8], word: &[u8]) -> u32
-    requires few { m ≤ 8 }
-    requires weights { length weights.now ≡ 2 ^ m }
-    requires word { length word.now ≡ 2 ^ m }
-    ensures { result ≡ cost m weights.now word.now }
-{
-    let mut sum = 0;
-    for point in 0..weights.len() {
-        sum += pay(weights[point], word[point]);
-    }
-    sum
 }
 
 // Refuses more than eight variables, weights or a word that are not one for each point, and the first byte of the word above 1.
@@ -47,6 +33,7 @@ fn check_word(m: u32, weights: &[i8], word: &[u8]) -> Result<(), Refusal>
 }
 
 // The cost of a word of m variables under weights: the sum of the sizes of the weights that it contradicts.
+#[tactic(auto, using(crate::proofs::Distances::cost_is_distance, crate::proofs::Distances::widest_radius))]
 pub fn cost(m: u32, weights: &[i8], word: &[u8]) -> Result<u32, Refusal>
     ensures refused { refusal_of result ≡ cost_row m weights.now word.now }
     ensures value { IfOk result (λ c. c ≡ cost m weights.now word.now) }
@@ -54,5 +41,5 @@ pub fn cost(m: u32, weights: &[i8], word: &[u8]) -> Result<u32, Refusal>
     ensures radius { WidestRadius }
 {
     check_word(m, weights, word)?;
-    Ok(sum_up(m, weights, word))
+    Ok(weights.iter().zip(word).map(|(&weight, &bit)| pay(weight, bit)).sum())
 }
