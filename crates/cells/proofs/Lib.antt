@@ -1,4 +1,3 @@
-pub mod Scanning
 pub mod Mapping
 pub mod Weights
 pub mod Distances

@@ -1,5 +1,6 @@
 -- Readings: what a kind of cell says of each cell, and the first row that a list of them gives.
 use Rattle.std.specs.Prelude.{◌≡◌, ℕ, ◌+◌, ◌≤◌, List, [], ◌∷◌, map, length, ℤ, pos, IfOk, Some, None, Ok, Err, Option, Result, unsigned_abs}
+use Rattle.std.specs.Result.{result_unwrap_or}
 use Rattle.words.specs.declared.refusals.Fault.{Fault}
 use Rattle.words.specs.Refusals.{Told, room_row, told_at}
 
@@ -9,8 +10,7 @@ Reading = Result ℤ Fault
 
 -- the weight that a reading gives, and 0 where it gives a fault
 abbrev pub weight_or_0 : Reading → ℤ
-weight_or_0 (Ok w) = w
-weight_or_0 (Err fault) = pos 0
+weight_or_0 reading = result_unwrap_or reading (pos 0)
 
 -- a weight lies from -127 to 127
 abbrev pub InRange : Reading → Type 0

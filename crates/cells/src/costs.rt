@@ -41,5 +41,11 @@ pub fn cost(m: u32, weights: &[i8], word: &[u8]) -> Result<u32, Refusal>
     ensures radius { WidestRadius }
 {
     check_word(m, weights, word)?;
-    Ok(weights.iter().zip(word).map(|(&weight, &bit)| pay(weight, bit)).sum())
+    Ok(
+        weights
+            .iter()
+            .zip(word)
+            .map(|(&weight, &bit)| pay(weight, bit))
+            .sum(),
+    )
 }

@@ -11,22 +11,11 @@ use words::{Refusal, check_room};
 pub fn check_cells<C: Cell>(cells: &[C]) -> Result<(), Refusal>
     ensures refused { refusal_of result ≡ cell_row 0 (map C.Cell.reading cells.now) }
 {
+    // A rule of the project: a loop with the place, and the first fault ends it.
     for (place, cell) in cells.iter().enumerate() {
-        if let Err(fault) = cell.read() {
-            return Err(Refusal::At { place, fault });
-        }
+        cell.read().map_err(|fault| Refusal::At { place, fault })?;
     }
     Ok(())
-}
-
-// The weight of a cell, and 0 where it has none.
-fn weight_or_zero<C: Cell>(cell: &C) -> i8
-    ensures { result ≡ weight_or_0 (C.Cell.reading cell.now) }
-{
-    match cell.read() {
-        Ok(weight) => weight,
-        Err(_) => 0,
-    }
 }
 
 // Writes the weight of each cell into the front of the buffer, and 0 for a cell that has none.
@@ -34,8 +23,9 @@ fn write_weights<C: Cell>(cells: &[C], weights: &mut [i8])
     requires room { length cells.now ≤ length weights.old }
     ensures { weights.new ≡ map (λ cell. weight_or_0 (C.Cell.reading cell)) cells.now ++ drop (length cells.now) weights.old }
 {
+    // By the place: after `weights.iter_mut().zip(cells)` nothing is known of what was written, so `returns` stays open.
     for (place, cell) in cells.iter().enumerate() {
-        weights[place] = weight_or_zero(cell);
+        weights[place] = cell.read().unwrap_or(0);
     }
 }
 
