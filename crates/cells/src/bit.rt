@@ -6,7 +6,7 @@ use crate::cell::Cell;
 use words::Fault;
 
 // A cell that is a bit: the byte 0 or 1.
-#[derive(Clone, Copy, Drop)]
+#[derive(Clone, Copy, Debug, PartialEq, Eq, Drop)]
 pub struct Bit {
     pub byte: u8,
 }

@@ -5,7 +5,7 @@ ghost use Rattle.std.proofs.Common.{rules};
 use crate::estimate::Estimate;
 
 // Any two estimates, of which the greater number counts.
-#[derive(Clone, Copy, Drop)]
+#[derive(Clone, Copy, Debug, PartialEq, Eq, Drop)]
 pub struct Greater<A, B> {
     pub one: A,
     pub other: B,
