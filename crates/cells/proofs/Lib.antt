@@ -1,3 +1,4 @@
+pub mod Filling
 pub mod Mapping
 pub mod Weights
 pub mod Distances

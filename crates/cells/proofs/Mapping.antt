@@ -1,15 +1,28 @@
--- A buffer filled with a value for each item of a list, one item further.
-use Rattle.std.proofs.Common.{◌≡◌, ℕ, suc, ◌+◌, ◌<◌, List, [], ◌∷◌, ◌++◌, map, length, get_or, take, drop, set, sym, ap, ◌∙◌, add-one, arith, append_assoc, length-take, drop-cons}
-use Rattle.std.proofs.lemmas.List.{map_more, length-map}
-use Rattle.std.proofs.Math.Seq.{set-append_seam}
+-- A buffer filled with a value for each item of a list, one after the other.
+use Rattle.std.proofs.Common.{◌≡◌, ℕ, ◌+◌, ◌<◌, List, [], ◌∷◌, ◌++◌, map, length, get_or, take, drop, set, sym, ap, ◌∙◌, ap₂, arith, length-set}
+use Rattle.std.proofs.lemmas.List.{take_more, take_more_set, take_all, drop-set-lt, drop-drop, take-append-drop, map_push}
 
-pub mapping_more : {X Y : Type 0} (f : X → Y) (items : List X) (before : List Y) (i : ℕ) (item : X) → i < length items → i < length before → item ≡ get_or items i item
-    → set (map f (take i items) ++ drop i before) i (f item) ≡ map f (take (i + 1) items) ++ drop (i + 1) before
-mapping_more f items before i item l room e =
-    let front = map f (take i items) in
-    let long : length front ≡ i = simp (length-map, length-take) (omega arith) in
-    let seam : set (front ++ drop i before) i (f item) ≡ front ++ f item ∷ drop (i + 1) before =
-    rw (drop-cons before i (f item) room, add-one i)
-    (ap (λ k. set (front ++ get_or before i (f item) ∷ drop (suc i) before) k (f item)) (sym long)
-    ∙ set-append_seam front (get_or before i (f item)) (drop (suc i) before) (f item)) in
-    seam ∙ sym (ap (λ ys. ys ++ drop (i + 1) before) (map_more f items i item l ∙ ap (λ x. front ++ f x ∷ []) (sym e)) ∙ append_assoc front (f item ∷ []) (drop (i + 1) before))
+-- the values of the first items stand in front, and the rest is as before
+pub record Mapping {X Y : Type 0} (f : X → Y) (items : List X) (before after : List Y) (done : ℕ) : Type 0 where
+  pub front : take done after ≡ map f (take done items)
+  pub rest : drop done after ≡ drop done before
+  pub long : length after ≡ length before
+
+module _ {X Y : Type 0} (f : X → Y) (items : List X) (before : List Y) where
+  pub mapping_more : (after : List Y) (i : ℕ) (item d : X) → Mapping f items before after i → i < length items → i < length after → item ≡ get_or items i d
+      → Mapping f items before (set after i (f item)) (i + 1)
+  mapping_more after i item d h l room e = record {
+    front =
+        take_more_set after i (f item) room
+        ∙ ap (λ xs. xs ++ f item ∷ []) h.front
+        ∙ sym (ap (map f) (take_more items i d l ∙ ap (λ x. take i items ++ x ∷ []) (sym e)) ∙ map_push f (take i items) item);
+    rest =
+        drop-set-lt (i + 1) after i (f item) (omega arith)
+        ∙ sym (drop-drop 1 i after) ∙ ap (drop 1) h.rest ∙ drop-drop 1 i before;
+    long = length-set after i (f item) ∙ h.long;
+  }
+
+  pub mapping_all : (after : List Y) (i : ℕ) → Mapping f items before after i → i ≡ length items → after ≡ map f items ++ drop (length items) before
+  mapping_all after i h e =
+      sym (take-append-drop i after)
+      ∙ ap₂ {C = List Y} ◌++◌ (h.front ∙ ap (map f) (take_all i items (omega arith))) (h.rest ∙ ap (λ k. drop k before) e)
