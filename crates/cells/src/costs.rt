@@ -3,7 +3,7 @@ ghost use Rattle.std.specs.Prelude.{◌≡◌, ◌^◌, ◌≤◌, length, IfOk,
 ghost use Rattle.words.specs.Refusals.{refusal_of};
 ghost use Rattle.cells.specs.Costs.{pays, cost, cost_row, CostIsDistance, WidestRadius};
 
-use words::{Refusal, check_bytes};
+use words::{Refusal, Variables, check_bytes};
 
 // What a word with this bit at a cell pays there: the size of the weight that it contradicts.
 fn pay(weight: i8, bit: u8) -> u32
@@ -22,10 +22,7 @@ fn check_word(m: u32, weights: &[i8], word: &[u8]) -> Result<(), Refusal>
     ensures refused { refusal_of result ≡ cost_row m weights.now word.now }
     ensures sizes { OnOk result ((m ≤ 8) × (length weights.now ≡ 2 ^ m) × (length word.now ≡ 2 ^ m)) }
 {
-    if m > 8 {
-        return Err(Refusal::Variables);
-    }
-    let n = 1 << m;
+    let n = Variables::try_from(m)?.points();
     if weights.len() != n {
         return Err(Refusal::Length);
     }
