@@ -12,7 +12,7 @@ ghost use Rattle.words.specs.Refusals.{refusal_of, byte_row};
 
 use reel::reel;
 use std::io;
-use text::spelled;
+use text::{Spelled, digits};
 use words::{Refusal, encode, read_back};
 
 // The grade of the tour: a message of order 2 in 6 variables, so 22 bits, and a mark of 64 cells. In a copy of the mark one cell is damaged.
@@ -64,41 +64,45 @@ fn round_trip(
 // Prints a mark of the tour row by row.
 fn show(rt: &HostRuntime, mark: &[u8]) -> io::Result<()> {
     for row in mark.chunks(width(VARIABLES)) {
-        let cells = spelled(rt.alloc(), row, "..", "##")?;
+        let cells = Spelled {
+            bytes: row,
+            zero: "..",
+            one: "##",
+        };
         println!(rt; "    {cells}")?;
     }
     Ok(())
 }
 
+// Prints the row that refused a call.
+fn print_refused(rt: &HostRuntime, row: u8) -> io::Result<()> {
+    println!(rt; "refused {row}")
+}
+
 // Prints what reading back answered, and what the buffer for the message then holds.
 fn report(rt: &HostRuntime, answer: Result<usize, Refusal>, found: &[u8]) -> io::Result<()> {
-    let message = spelled(rt.alloc(), found, "0", "1")?;
+    let message = digits(found);
     match answer {
         Ok(_) => println!(rt; "Read back: {message}"),
-        Err(refusal) => {
-            let row = refusal.number();
-            println!(rt;
-                "Read back: refused {row}. The buffer for the message is as before: {message}"
-            )
-        }
+        Err(refusal) => println!(rt;
+            "Read back: refused {}. The buffer for the message is as before: {message}",
+            refusal.number()
+        ),
     }
 }
 
 fn main(rt: HostRuntime) -> io::Result<()> {
     let mut mark = [0u8; CELLS];
     let mut found = [0u8; LENGTH];
-    let grade = spelled(rt.alloc(), &GRADE, "0", "1")?;
     println!(rt; "A grade, as a message of order {ORDER} in {VARIABLES} variables:")?;
-    println!(rt; "    {grade}")?;
+    println!(rt; "    {}", digits(&GRADE))?;
     if let Err(refusal) = round_trip(&GRADE, &mut mark, &mut found) {
-        let row = refusal.number();
-        return println!(rt; "refused {row}");
+        return print_refused(&rt, refusal.number());
     }
     println!(rt; "Its mark, a word of {CELLS} cells, ## for 1 and .. for 0:")?;
     show(&rt, &mark)?;
-    let message = spelled(rt.alloc(), &found, "0", "1")?;
     println!(rt; "Read back from the mark, the same grade:")?;
-    println!(rt; "    {message}")?;
+    println!(rt; "    {}", digits(&found))?;
     let mut copy = mark;
     damage(&mut copy, DAMAGED);
     println!(rt; "A copy of the mark with the cell at place {DAMAGED} turned over:")?;

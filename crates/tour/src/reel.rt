@@ -1,10 +1,13 @@
 // A mark that comes as a patch file: the file is read, its roll and its cells are shown, and the cost of the grade's own mark; then its header is damaged.
-ghost use Rattle.std.specs.Prelude.{◌≡◌, ◌≤◌, ◌++◌, map, length, drop};
+ghost use Rattle.std.specs.Prelude.{◌≡◌, ◌≤◌, map, length, IfOk};
+ghost use Rattle.polynomials.specs.Words.{Table};
+ghost use Rattle.cells.specs.Costs.{distance};
 
-use crate::show;
+use crate::{print_refused, show};
 use cells::{Bit, cost, weigh};
 use lines::{refused_line, roll_line};
 use patch::{Patch, read_patch, unpack};
+use std::alloc::{AllocError, Global};
 use std::io;
 use std::io::Write;
 use words::Refusal;
@@ -18,64 +21,60 @@ const DAMAGED: usize = 7;
 
 const BECOMES: u8 = 20;
 
-// Copies the bytes of bit cells into the front of a buffer.
-fn copy_bytes(cells: &[Bit], bytes: &mut [u8])
-    requires { length cells.now ≤ length bytes.old }
-    ensures { bytes.new ≡ map (λ cell. cell.byte) cells.now ++ drop (length cells.now) bytes.old }
+// The bytes of bit cells.
+fn bytes_of(heap: Global, cells: &[Bit]) -> Result<Vec<u8>, AllocError>
+    ensures { IfOk result (λ bytes. bytes.items ≡ map (λ cell. cell.byte) cells.now) }
 {
-    for (place, cell) in cells.iter().enumerate() {
-        bytes[place] = cell.byte;
-    }
+    cells.iter().map(|cell| cell.byte).collect(heap)
 }
 
-// Prints a line that a call wrote into the buffer, or the row that refused it.
-fn print_line(rt: &HostRuntime, answer: Result<usize, Refusal>, line: &[u8]) -> io::Result<()> {
-    match answer {
-        Ok(n) => rt.stdout().write_all(&line[0..n.min(line.len())]),
-        Err(refusal) => {
-            let row = refusal.number();
-            println!(rt; "refused {row}")
-        }
+// What a mark costs against bit cells: at how many points it differs from them.
+fn cost_against(cells: &[Bit], m: u32, mark: &[u8]) -> Result<u32, Refusal>
+    ensures { Table m mark.now → IfOk result (λ paid. paid ≡ distance m (map (λ cell. cell.byte) cells.now) mark.now) }
+{
+    let mut weights = [0i8; 256];
+    let n = weigh(cells, &mut weights)?;
+    cost(m, &weights[..n], mark)
+}
+
+// Has a line written, and prints it, or the row that refused it.
+fn print_line<F: FnOnce(&mut [u8]) -> Result<usize, Refusal>>(
+    rt: &HostRuntime,
+    write: F,
+) -> io::Result<()>
+    requires callable { F.IsAlwaysCallable write }
+    requires bound { (line : _) (answer : _) (after : _) → F.post write line answer after → IfOk answer (λ n. n ≤ length line.now) }
+{
+    let mut line = [0u8; 64];
+    match write(&mut line) {
+        Ok(n) => rt.stdout().write_all(&line[..n]),
+        Err(refusal) => print_refused(rt, refusal.number()),
     }
 }
 
 // Prints the cells that a patch file brings, and what a mark costs against them.
 fn show_cells(rt: &HostRuntime, patch: &Patch<'_>, mark: &[u8]) -> io::Result<()> {
     let mut cells = [Bit { byte: 0 }; 256];
-    let mut weights = [0i8; 256];
-    let mut bytes = [0u8; 256];
     let n = match unpack(patch.header.variables, patch.cells, &mut cells) {
         Ok(n) => n,
-        Err(row) => return println!(rt; "refused {row}"),
+        Err(row) => return print_refused(rt, row),
     };
-    copy_bytes(&cells[0..n], &mut bytes);
-    show(rt, &bytes[0..n])?;
-    if let Err(refusal) = weigh(&cells[0..n], &mut weights) {
-        let row = refusal.number();
-        return println!(rt; "refused {row}");
-    }
-    match cost(patch.header.variables, &weights[0..n], mark) {
+    let cells = &cells[..n];
+    show(rt, &bytes_of(rt.alloc(), cells)?)?;
+    match cost_against(cells, patch.header.variables, mark) {
         Ok(paid) => println!(rt; "The cost of the grade's mark against these cells: {paid}"),
-        Err(refusal) => {
-            let row = refusal.number();
-            println!(rt; "refused {row}")
-        }
+        Err(refusal) => print_refused(rt, refusal.number()),
     }
 }
 
 // Reads a patch file, and prints its roll line and its cells, or the line of what it is refused with.
 fn show_file(rt: &HostRuntime, file: &[u8], mark: &[u8]) -> io::Result<()> {
-    let mut line = [0u8; 64];
     match read_patch(file) {
         Ok(patch) => {
-            let answer = roll_line(patch.name, &mut line);
-            print_line(rt, answer, &line)?;
+            print_line(rt, |line| roll_line(patch.name, line))?;
             show_cells(rt, &patch, mark)
         }
-        Err(row) => {
-            let answer = refused_line(row, &mut line);
-            print_line(rt, answer, &line)
-        }
+        Err(row) => print_line(rt, |line| refused_line(row, line)),
     }
 }
 

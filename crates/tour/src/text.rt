@@ -1,28 +1,35 @@
 // Bits as text.
-ghost use Rattle.std.specs.Prelude.{◌≡◌, IfOk, if◌then◌else◌, string_bytes, ◌==◌};
+ghost use Rattle.std.specs.Prelude.{◌≡◌, codes, Some};
 ghost use Rattle.tour.specs.Spelling.{spell};
 
-use std::alloc::{AllocError, Global};
+use std::fmt;
 
-// The one text for 0, and the other for every other byte.
-fn glyph<'a>(byte: u8, zero: &'a str, one: &'a str) -> &'a str
-    ensures { result.now ≡ (if byte == 0 then zero.now else one.now) }
-{
-    if byte == 0 { zero } else { one }
+// Bytes that are printed as the one text for each 0, and the other for each other byte.
+#[derive(Clone, Copy)]
+pub(crate) struct Spelled<'a> {
+    pub bytes: &'a [u8],
+    pub zero: &'a str,
+    pub one: &'a str,
 }
 
-// The texts of some bytes, one after the other.
-pub(crate) fn spelled(
-    heap: Global,
-    bytes: &[u8],
-    zero: &str,
-    one: &str,
-) -> Result<String, AllocError>
-    ensures { IfOk result (λ t. string_bytes t ≡ spell zero.now one.now bytes.now) }
-{
-    let mut text = String::new(heap);
-    for byte in bytes {
-        text.push_str(glyph(*byte, zero, one))?;
+impl fmt::Display for Spelled<'_> {
+    ghost output = { λ s. Some (spell s.zero.now s.one.now s.bytes.now) };
+
+    fn fmt<W: fmt::Write>(&self, f: &mut fmt::Formatter<W>) -> fmt::Result {
+        for byte in self.bytes {
+            f.write_str(if *byte == 0 { self.zero } else { self.one })?;
+        }
+        Ok(())
     }
-    Ok(text)
+}
+
+// Bits that are printed as digits.
+pub(crate) fn digits(bytes: &[u8]) -> Spelled<'_>
+    ensures { spell result.zero.now result.one.now result.bytes.now ≡ spell (codes "0") (codes "1") bytes.now }
+{
+    Spelled {
+        bytes,
+        zero: "0",
+        one: "1",
+    }
 }
