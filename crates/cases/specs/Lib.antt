@@ -1,4 +1,5 @@
 pub mod Strengths
+pub mod Digits
 pub mod Samples
 pub mod Cases
 pub mod Table

@@ -1,41 +1,47 @@
 // The calls on words, with their rows.
-use crate::printing::{print_digits, print_refusal, print_word};
+ghost use Rattle.std.specs.Prelude.{◌≤◌, length, IfOk};
+
+use crate::printing::{Digits, print_number, print_refusal};
 use std::io;
-use words::{dimension, encode, read_back};
+use words::{Refusal, dimension, encode, read_back};
 
 // Asks for the dimension, and prints the question and the answer.
 fn ask_dimension(rt: &HostRuntime, m: u32, r: u32) -> io::Result<()> {
     print!(rt; "dimension, m={m} r={r}: ")?;
-    match dimension(m, r) {
-        Ok(k) => println!(rt; "{k}"),
+    print_number(rt, dimension(m, r))
+}
+
+// Makes a call on m, r and bytes with room for so many, and prints the question, with the call's name, and the answer.
+fn ask<F: FnOnce(&mut [u8]) -> Result<usize, Refusal>>(
+    rt: &HostRuntime,
+    name: &str,
+    m: u32,
+    r: u32,
+    bytes: &[u8],
+    room: usize,
+    call: F,
+) -> io::Result<()>
+    requires callable { F.IsAlwaysCallable call }
+    requires bound { (buffer : _) (answer : _) (after : _) → F.post call buffer answer after → IfOk answer (λ n. n ≤ length buffer.now) }
+{
+    let mut buffer = vec![in rt.alloc(); 0u8; room]?;
+    print!(rt; "{name}, m={m} r={r} room {room}, {}: ", Digits(bytes))?;
+    match call(&mut buffer) {
+        Ok(n) => println!(rt; "{}", Digits(&buffer[..n])),
         Err(refusal) => print_refusal(rt, refusal),
     }
 }
 
-// Encodes with room for so many bytes, 256 at most, and prints the question and the answer.
+// Encodes with room for so many bytes, and prints the question and the answer.
 fn ask_encode(rt: &HostRuntime, m: u32, r: u32, message: &[u8], room: usize) -> io::Result<()> {
-    let mut buffer = [0u8; 256];
-    let word = &mut buffer[0..room.min(256)];
-    print!(rt; "encode, m={m} r={r} room {room}, ")?;
-    print_digits(rt, message)?;
-    print!(rt; ": ")?;
-    match encode(m, r, message, word) {
-        Ok(n) => print_word(rt, &word[0..n]),
-        Err(refusal) => print_refusal(rt, refusal),
-    }
+    let call = |word: &mut [u8]| encode(m, r, message, word);
+    ask(rt, "encode", m, r, message, room, call)
 }
 
-// Reads back with room for so many bytes, 256 at most, and prints the question and the answer.
+// Reads back with room for so many bytes, and prints the question and the answer.
 fn ask_read_back(rt: &HostRuntime, m: u32, r: u32, table: &[u8], room: usize) -> io::Result<()> {
-    let mut buffer = [0u8; 256];
-    let message = &mut buffer[0..room.min(256)];
-    print!(rt; "read back, m={m} r={r} room {room}, ")?;
-    print_digits(rt, table)?;
-    print!(rt; ": ")?;
-    match read_back(m, r, table, message) {
-        Ok(k) => print_word(rt, &message[0..k]),
-        Err(refusal) => print_refusal(rt, refusal),
-    }
+    let call = |message: &mut [u8]| read_back(m, r, table, message);
+    ask(rt, "read back", m, r, table, room, call)
 }
 
 // The rows of dimension, and the largest sizes.

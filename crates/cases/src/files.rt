@@ -1,9 +1,10 @@
 // Patch files at the edges, and packed cells.
-ghost use Rattle.std.specs.Prelude.{◌≡◌, ◌++◌, drop, replicate};
+ghost use Rattle.std.specs.Prelude.{◌≡◌, ◌++◌, take, replicate, IfOk};
 
 use cells::Bit;
 use patch::{Patch, read_patch, unpack};
-use std::io;
+use std::alloc::{AllocError, Global};
+use std::{io, iter};
 
 // Files to try: the size of each, and its first 15 bytes. All other bytes are 0.
 const FILES: [(usize, [u8; 15]); 82] = [
@@ -91,46 +92,41 @@ const FILES: [(usize, [u8; 15]); 82] = [
     (20, [2, 1, 0, 1, 0, 4, 0, 12, 0, 2, 0, 13, 255, 0, 0]),
 ];
 
-// Unpacks with room for so many cells, 256 at most, and prints the first cells of the buffer, which were 7 before, or the row.
-fn ask_unpack(rt: &HostRuntime, m: u32, bytes: &[u8], room: usize) -> io::Result<()> {
-    let mut buffer = [Bit { byte: 7 }; 256];
-    let cells = &mut buffer[0..room.min(256)];
-    match unpack(m, bytes, cells) {
+// Unpacks with room for so many cells, and prints the first cells of the buffer, which were 7 before, or the row.
+fn print_unpacked(rt: &HostRuntime, m: u32, bytes: &[u8], room: usize) -> io::Result<()> {
+    let mut cells = vec![in rt.alloc(); Bit { byte: 7 }; room]?;
+    match unpack(m, bytes, &mut cells) {
         Ok(n) => print!(rt; "{n} cells,")?,
         Err(row) => print!(rt; "refused {row},")?,
     }
-    for (place, cell) in cells.iter().enumerate() {
-        if place < 9 {
-            let byte = cell.byte;
-            print!(rt; " {byte}")?;
-        }
+    for cell in cells.iter().take(9) {
+        print!(rt; " {}", cell.byte)?;
     }
     println!(rt; "")
 }
 
 // Prints the parts of a patch and its cells.
 fn print_patch(rt: &HostRuntime, patch: &Patch<'_>) -> io::Result<()> {
-    let name = patch.name;
-    let cells = patch.cells;
-    print!(rt; "name {name:?}, bytes {cells:?}, ")?;
-    ask_unpack(rt, patch.header.variables, cells, 256)
+    print!(rt; "name {:?}, bytes {:?}, ", patch.name, patch.cells)?;
+    print_unpacked(rt, patch.header.variables, patch.cells, 256)
 }
 
-// These bytes, and 0 after them.
-fn begun_with(bytes: &[u8; 15]) -> [u8; 4097]
-    ensures { result ≡ bytes.now ++ drop 15 (replicate 4097 0) }
+// A file of so many bytes: these, and 0 after them.
+fn begun_with(heap: Global, size: usize, bytes: &[u8; 15]) -> Result<Vec<u8>, AllocError>
+    ensures { IfOk result (λ file. file.items ≡ take size (bytes.now ++ replicate size 0)) }
 {
-    let mut file = [0u8; 4097];
-    for (place, byte) in bytes.iter().enumerate() {
-        file[place] = *byte;
-    }
-    file
+    bytes
+        .iter()
+        .copied()
+        .chain(iter::repeat_n(0, size))
+        .take(size)
+        .collect(heap)
 }
 
-// Reads a file of so many bytes, 4,097 at most, that begins with these, and prints the answer.
+// Reads a file of so many bytes that begins with these, and prints the answer.
 fn ask_file(rt: &HostRuntime, size: usize, bytes: &[u8; 15]) -> io::Result<()> {
-    let file = begun_with(bytes);
-    match read_patch(&file[0..size.min(4097)]) {
+    let file = begun_with(rt.alloc(), size, bytes)?;
+    match read_patch(&file) {
         Ok(patch) => print_patch(rt, &patch),
         Err(row) => println!(rt; "refused {row}"),
     }
@@ -145,20 +141,19 @@ pub(crate) fn files(rt: &HostRuntime) -> io::Result<()> {
     Ok(())
 }
 
+// Unpacks with room for so many cells, and prints the question, with the bytes as this text, and the answer.
+fn ask_unpack(rt: &HostRuntime, m: u32, text: &str, bytes: &[u8], room: usize) -> io::Result<()> {
+    print!(rt; "unpack, m={m}, {text}, room {room}: ")?;
+    print_unpacked(rt, m, bytes, room)
+}
+
 // The rows of unpack, and all bits of a byte.
 pub(crate) fn unpackings(rt: &HostRuntime) -> io::Result<()> {
-    print!(rt; "unpack, m=3, 165, room 8: ")?;
-    ask_unpack(rt, 3, &[165], 8)?;
-    print!(rt; "unpack, m=4, 1 128, room 16: ")?;
-    ask_unpack(rt, 4, &[1, 128], 16)?;
-    print!(rt; "unpack, m=1, 64, room 4: ")?;
-    ask_unpack(rt, 1, &[64], 4)?;
-    print!(rt; "unpack, m=9, no bytes, room 0: ")?;
-    ask_unpack(rt, 9, &[], 0)?;
-    print!(rt; "unpack, m=4, 1, room 0: ")?;
-    ask_unpack(rt, 4, &[1], 0)?;
-    print!(rt; "unpack, m=2, 8, room 3: ")?;
-    ask_unpack(rt, 2, &[8], 3)?;
-    print!(rt; "unpack, m=2, 8, room 4: ")?;
-    ask_unpack(rt, 2, &[8], 4)
+    ask_unpack(rt, 3, "165", &[165], 8)?;
+    ask_unpack(rt, 4, "1 128", &[1, 128], 16)?;
+    ask_unpack(rt, 1, "64", &[64], 4)?;
+    ask_unpack(rt, 9, "no bytes", &[], 0)?;
+    ask_unpack(rt, 4, "1", &[1], 0)?;
+    ask_unpack(rt, 2, "8", &[8], 3)?;
+    ask_unpack(rt, 2, "8", &[8], 4)
 }

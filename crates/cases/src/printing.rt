@@ -1,20 +1,24 @@
 // Answers as text.
-use std::io;
+ghost use Rattle.std.specs.Prelude.{Some};
+ghost use Rattle.cases.specs.Digits.{digits_of};
+
 use std::num::f32_to_bits_with_nan;
+use std::{fmt, io};
 use words::{Fault, Refusal};
 
-// Prints bytes as digits.
-pub(crate) fn print_digits(rt: &HostRuntime, bytes: &[u8]) -> io::Result<()> {
-    for byte in bytes {
-        print!(rt; "{byte}")?;
-    }
-    Ok(())
-}
+// Bytes that are printed as digits.
+#[derive(Clone, Copy)]
+pub(crate) struct Digits<'a>(pub &'a [u8]);
 
-// Prints bytes as digits, and ends the line.
-pub(crate) fn print_word(rt: &HostRuntime, bytes: &[u8]) -> io::Result<()> {
-    print_digits(rt, bytes)?;
-    println!(rt; "")
+impl fmt::Display for Digits<'_> {
+    ghost output = { λ digits. Some (digits_of digits.0.now) };
+
+    fn fmt<W: fmt::Write>(&self, f: &mut fmt::Formatter<W>) -> fmt::Result {
+        for byte in self.0 {
+            write!(f, "{byte}")?;
+        }
+        Ok(())
+    }
 }
 
 // Prints what a fault carries, levels by their bits, and ends the line.
@@ -50,5 +54,16 @@ pub(crate) fn print_refusal(rt: &HostRuntime, refusal: Refusal) -> io::Result<()
             print_values(rt, fault)
         }
         _ => println!(rt; "refused {row}"),
+    }
+}
+
+// Prints a number that a call answered, or what refused the call.
+pub(crate) fn print_number<T: fmt::Display + Drop>(
+    rt: &HostRuntime,
+    answer: Result<T, Refusal>,
+) -> io::Result<()> {
+    match answer {
+        Ok(number) => println!(rt; "{number}"),
+        Err(refusal) => print_refusal(rt, refusal),
     }
 }

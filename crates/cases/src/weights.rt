@@ -1,5 +1,5 @@
 // Pixels at the edges, lists of cells with faults, and costs.
-use crate::printing::{print_fault, print_refusal};
+use crate::printing::{print_fault, print_number, print_refusal};
 use crate::strength::Strength;
 use cells::{Bit, Cell, Pixel, check_cells, cost, weigh};
 use std::io;
@@ -24,6 +24,14 @@ const LEVELS: [u32; 15] = [
     0x7fc0_0000,
 ];
 
+// Prints the weight of a cell, or its fault.
+fn print_reading<C: Cell>(rt: &HostRuntime, cell: &C) -> io::Result<()> {
+    match cell.read() {
+        Ok(weight) => println!(rt; "weighs {weight}"),
+        Err(fault) => print_fault(rt, fault),
+    }
+}
+
 // Reads the pixel of two levels, given by their bits, and prints the question and the answer.
 fn ask_pixel(rt: &HostRuntime, dark: u32, light: u32) -> io::Result<()> {
     let pixel = Pixel {
@@ -31,10 +39,7 @@ fn ask_pixel(rt: &HostRuntime, dark: u32, light: u32) -> io::Result<()> {
         lightest: f32_from_bits_with_nan(light),
     };
     print!(rt; "pixel {dark:08x} {light:08x}: ")?;
-    match pixel.read() {
-        Ok(weight) => println!(rt; "weighs {weight}"),
-        Err(fault) => print_fault(rt, fault),
-    }
+    print_reading(rt, &pixel)
 }
 
 // Every pair of the levels.
@@ -50,21 +55,19 @@ pub(crate) fn pixels(rt: &HostRuntime) -> io::Result<()> {
 // Reads a bit cell, and prints the question and the answer.
 fn ask_bit(rt: &HostRuntime, byte: u8) -> io::Result<()> {
     print!(rt; "bit {byte}: ")?;
-    match (Bit { byte }).read() {
-        Ok(weight) => println!(rt; "weighs {weight}"),
-        Err(fault) => print_fault(rt, fault),
-    }
+    print_reading(rt, &Bit { byte })
 }
 
-// Checks a list of cells, then weighs it with room for so many weights, 4 at most, and prints the answers and the weights, which were 7 before.
-fn ask_list<C: Cell>(rt: &HostRuntime, cells: &[C], room: usize) -> io::Result<()> {
-    let mut buffer = [7i8; 4];
-    let weights = &mut buffer[0..room.min(4)];
+// Checks a list of cells, then weighs it with room for so many weights, and prints the question, with the cells as this text, the answers and the
+// weights, which were 7 before.
+fn ask_list<C: Cell>(rt: &HostRuntime, text: &str, cells: &[C], room: usize) -> io::Result<()> {
+    let mut weights = vec![in rt.alloc(); 7i8; room]?;
+    print!(rt; "{text}, room {room}: ")?;
     match check_cells(cells) {
         Ok(()) => println!(rt; "checked")?,
         Err(refusal) => print_refusal(rt, refusal)?,
     }
-    match weigh(cells, weights) {
+    match weigh(cells, &mut weights) {
         Ok(n) => println!(rt; "    {n} cells weighed, the weights {weights:?}"),
         Err(refusal) => {
             print!(rt; "    the weights {weights:?}, ")?;
@@ -73,58 +76,47 @@ fn ask_list<C: Cell>(rt: &HostRuntime, cells: &[C], room: usize) -> io::Result<(
     }
 }
 
-// Bits, and lists of bits, of pixels and of a kind from outside the library: accepted, with faults, and without room.
-pub(crate) fn lists(rt: &HostRuntime) -> io::Result<()> {
-    for byte in [0u8, 1, 2, 255] {
+// Bits, and lists of bits: accepted, with faults, and without room.
+fn bits(rt: &HostRuntime) -> io::Result<()> {
+    for byte in [0, 1, 2, 255] {
         ask_bit(rt, byte)?;
     }
-    let bits = [Bit { byte: 0 }, Bit { byte: 1 }, Bit { byte: 0 }];
-    let faulty = [Bit { byte: 0 }, Bit { byte: 2 }, Bit { byte: 3 }];
-    let pixels = [
-        Pixel {
-            darkest: 1.0,
-            lightest: 1.0,
-        },
-        Pixel {
-            darkest: 0.5,
-            lightest: 0.25,
-        },
-        Pixel {
-            darkest: 2.0,
-            lightest: 2.0,
-        },
-    ];
-    print!(rt; "bits 0 1 0, room 4: ")?;
-    ask_list(rt, &bits, 4)?;
-    print!(rt; "bits 0 1 0, room 2: ")?;
-    ask_list(rt, &bits, 2)?;
-    print!(rt; "bits 0 2 3, room 3: ")?;
-    ask_list(rt, &faulty, 3)?;
-    print!(rt; "bits 0 2 3, room 2: ")?;
-    ask_list(rt, &faulty, 2)?;
-    print!(rt; "pixels (1, 1), (0.5, 0.25), (2, 2), room 3: ")?;
-    ask_list(rt, &pixels, 3)?;
-    print!(rt; "no pixels, room 0: ")?;
-    ask_list(rt, &pixels[0..0], 0)?;
-    let strengths = [
-        Strength { strength: 127 },
-        Strength { strength: -127 },
-        Strength { strength: 0 },
-        Strength { strength: -128 },
-    ];
-    print!(rt; "strengths 127 -127 0, room 4: ")?;
-    ask_list(rt, &strengths[0..3], 4)?;
-    print!(rt; "strengths 127 -127 0 -128, room 4: ")?;
-    ask_list(rt, &strengths, 4)
+    let bits = [0, 1, 0].map(|byte| Bit { byte });
+    let faulty = [0, 2, 3].map(|byte| Bit { byte });
+    ask_list(rt, "bits 0 1 0", &bits, 4)?;
+    ask_list(rt, "bits 0 1 0", &bits, 2)?;
+    ask_list(rt, "bits 0 2 3", &faulty, 3)?;
+    ask_list(rt, "bits 0 2 3", &faulty, 2)
+}
+
+// Lists of pixels: with a fault, and with none at all.
+fn pixel_lists(rt: &HostRuntime) -> io::Result<()> {
+    let pixels = [(1.0, 1.0), (0.5, 0.25), (2.0, 2.0)].map(|(darkest, lightest)| Pixel {
+        darkest,
+        lightest,
+    });
+    ask_list(rt, "pixels (1, 1), (0.5, 0.25), (2, 2)", &pixels, 3)?;
+    ask_list(rt, "no pixels", &pixels[..0], 0)
+}
+
+// Lists of a kind of cell from outside the library: accepted, and with a fault.
+fn strengths(rt: &HostRuntime) -> io::Result<()> {
+    let strengths = [127, -127, 0, -128].map(|strength| Strength { strength });
+    ask_list(rt, "strengths 127 -127 0", &strengths[..3], 4)?;
+    ask_list(rt, "strengths 127 -127 0 -128", &strengths, 4)
+}
+
+// Lists of cells of each kind.
+pub(crate) fn lists(rt: &HostRuntime) -> io::Result<()> {
+    bits(rt)?;
+    pixel_lists(rt)?;
+    strengths(rt)
 }
 
 // Asks for a cost, and prints the question and the answer.
 fn ask_cost(rt: &HostRuntime, m: u32, weights: &[i8], word: &[u8]) -> io::Result<()> {
     print!(rt; "cost, m={m} weights {weights:?} word {word:?}: ")?;
-    match cost(m, weights, word) {
-        Ok(paid) => println!(rt; "{paid}"),
-        Err(refusal) => print_refusal(rt, refusal),
-    }
+    print_number(rt, cost(m, weights, word))
 }
 
 // Costs, the rows that refuse one, and the largest.
@@ -137,8 +129,6 @@ pub(crate) fn costs(rt: &HostRuntime) -> io::Result<()> {
     ask_cost(rt, 1, &[1], &[0, 2])?;
     ask_cost(rt, 1, &[1, 1], &[2])?;
     ask_cost(rt, 1, &[1, 1], &[0, 2])?;
-    match cost(8, &[127i8; 256], &[1u8; 256]) {
-        Ok(paid) => println!(rt; "cost, m=8 weights all 127 word all 1: {paid}"),
-        Err(refusal) => print_refusal(rt, refusal),
-    }
+    print!(rt; "cost, m=8 weights all 127 word all 1: ")?;
+    print_number(rt, cost(8, &[127i8; 256], &[1u8; 256]))
 }

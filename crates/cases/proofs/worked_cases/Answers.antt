@@ -1,6 +1,5 @@
-use Rattle.std.proofs.Common.{refl}
 use Rattle.cases.proofs.Worked.{table_holds}
 use Rattle.cases.proofs.worked_cases.Goals as goal
 
-pub returns : goal.returns
-returns c = record { count = refl; hold = table_holds }
+pub returns-clause-hold : goal.returns-clause-hold
+returns-clause-hold c = table_holds
