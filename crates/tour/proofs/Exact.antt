@@ -1,6 +1,7 @@
 -- A mark written into a buffer of just its length: the whole buffer is the word.
-use Rattle.std.proofs.Common.{◌≡◌, ℕ, ◌^◌, ◌≤◌, List, [], ◌++◌, length, take, drop, ap, ◌∙◌, subst, arith}
-use Rattle.std.proofs.lemmas.List.{append-nil, drop_all, take_all}
+use Rattle.std.proofs.Common.{◌≡◌, ℕ, ◌^◌, List, ◌++◌, length, take, drop, ap, subst, arith}
+use Rattle.std.proofs.lemmas.List.{take_all}
+use Rattle.std.proofs.lemmas.Grind.{common_steps}
 use Rattle.polynomials.specs.Words.{word_of, Encodes, ReadsBack}
 use Rattle.polynomials.proofs.Reading.{length_word}
 
@@ -11,7 +12,5 @@ pub record Exact (m r : ℕ) (message word : List ℕ) : Type 0 where
 pub exact : (m r n : ℕ) (message before after : List ℕ) → n ≡ 2 ^ m → length before ≡ 2 ^ m → after ≡ word_of m r message ++ drop n before
     → ReadsBack m r (take n after) message → Exact m r message after
 exact m r n message before after e l w b =
-    let none : drop n before ≡ [] = drop_all n before (omega arith) in
-    let whole : after ≡ word_of m r message = w ∙ ap (λ t. word_of m r message ++ t) none ∙ append-nil (word_of m r message) in
-    let long : length after ≤ n = omega (arith, ap length whole, length_word m r message) in
-    record { whole = whole; encodes = subst (Encodes m r message) (take_all n after long) b.encodes }
+    let whole : after ≡ word_of m r message = grind (arith, common_steps) in
+    record { whole = whole; encodes = subst (Encodes m r message) (take_all n after (omega (arith, ap length whole, length_word m r message))) b.encodes }

@@ -1,5 +1,5 @@
-use Rattle.std.proofs.Common.{sym, ◌∙◌, arith, lit≤}
-use Rattle.std.proofs.lemmas.List.{take_all}
+use Rattle.std.proofs.Common.{arith, lit≤}
+use Rattle.std.proofs.lemmas.Grind.{common_steps}
 use Rattle.tour.proofs.Exact.{exact}
 use Rattle.tour.proofs.round_trip.Goals as goal
 
@@ -13,5 +13,4 @@ returns-clause-found c =
     let ok = c.in_ok-encode.ensures in
     let back = c.in_ok-read_back.ensures in
     let mark = exact 6 2 _ _ _ _ ok.written.0 c.told-mark ok.written.1 ok.reads_back in
-    sym (take_all _ c.read_back.new.message (omega (arith, back.written.0, c.told-found, c.read_back.auto.message)))
-    ∙ back.undoes_encode c.args.grade.now mark.encodes (lit≤ tt) (lit≤ tt) (omega (arith, c.told-found))
+    grind (arith, common_steps, back.written.0, c.told-found, c.read_back.auto.message, back.undoes_encode c.args.grade.now mark.encodes (lit≤ tt) (lit≤ tt) (omega (arith, c.told-found)))
