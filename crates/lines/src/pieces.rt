@@ -81,6 +81,7 @@ pub(crate) fn put(pieces: &[Piece], line: &mut [u8]) -> usize
     ensures after { result ≡ length (text pieces.now) }
     ensures put { line.new ≡ text pieces.now ++ drop result line.old }
 {
+    // A loop: of a buffer that a closure changes, as in a fold, the proof would know nothing.
     let mut end = 0;
     for piece in pieces {
         end += piece.put(&mut line[end..]);

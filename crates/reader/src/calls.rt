@@ -101,6 +101,7 @@ impl Reader {
         if cells.len() != code.points() {
             return Err(Refusal::Length);
         }
+        // No heap: as many as a mark can have.
         let mut weights = [0; 256];
         weigh(cells, &mut weights)?;
         self.weights = Some(weights);

@@ -32,6 +32,7 @@ fn bytes_of(heap: Global, cells: &[Bit]) -> Result<Vec<u8>, AllocError>
 fn cost_against(cells: &[Bit], m: u32, mark: &[u8]) -> Result<u32, Refusal>
     ensures { Table m mark.now → IfOk result (λ paid. paid ≡ distance m (map (λ cell. cell.byte) cells.now) mark.now) }
 {
+    // Fixed memory, as a caller without a heap would have: a mark has at most 256 cells.
     let mut weights = [0i8; 256];
     let n = weigh(cells, &mut weights)?;
     cost(m, &weights[..n], mark)
@@ -54,6 +55,7 @@ fn print_line<F: FnOnce(&mut [u8]) -> Result<usize, Refusal>>(
 
 // Prints the cells that a patch file brings, and what a mark costs against them.
 fn show_cells(rt: &HostRuntime, patch: &Patch<'_>, mark: &[u8]) -> io::Result<()> {
+    // Fixed memory here too.
     let mut cells = [Bit { byte: 0 }; 256];
     let n = match unpack(patch.header.variables, patch.cells, &mut cells) {
         Ok(n) => n,

@@ -21,6 +21,7 @@ fn check_bits(bytes: &[u8]) -> Result<(), Refusal>
     ensures refused { refusal_of result ≡ byte_row 0 bytes.now }
     ensures bits { OnOk result (Bits bytes.now) }
 {
+    // A loop, as over cells: `position` would have the byte looked up again.
     for (place, byte) in bytes.iter().enumerate() {
         if *byte > 1 {
             return Err(Refusal::At {

@@ -36,6 +36,7 @@ impl Iterator for Monomials {
 
     // The highest that is left.
     fn next(&mut self) -> Option<usize> {
+        // Counted down by hand: with `(0..below).rev().find(..)` the clause `steps` stays open.
         while self.below > 0 {
             self.below -= 1;
             if is_admitted(self.order, self.below) {

@@ -82,6 +82,7 @@ impl Refusal {
     pub fn number(&self) -> u8
         ensures { result ≡ number (told self.now) }
     {
+        // By a match: a case with fields has no number of its own that could be cast.
         match self {
             Refusal::Variables => 1,
             Refusal::Order => 2,

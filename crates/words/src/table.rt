@@ -31,6 +31,7 @@ impl Table<'_> {
     pub(crate) fn is_low(&self) -> bool
         ensures { IsTrue result ↔ Degree≤ self.now.code.variables self.now.code.order self.now.bits.now }
     {
+        // A loop: with `all` over the range the check leaves the result open, and its lemma is longer than this.
         for mono in 0..self.code.points() {
             if !is_admitted(self.code.order, mono) && self.coefficient_of(mono) != 0 {
                 return false;
@@ -44,6 +45,7 @@ impl Table<'_> {
         requires room { dimension self.now.code.variables self.now.code.order ≤ length message.old }
         ensures { message.new ≡ coefficients self.now.code.variables self.now.code.order self.now.bits.now ++ drop (dimension self.now.code.variables self.now.code.order) message.old }
     {
+        // By place: after a zip with `iter_mut` the proof knows no byte of the buffer.
         for (place, mono) in self.code.monomials().enumerate() {
             message[place] = self.coefficient_of(mono);
         }
