@@ -21,7 +21,7 @@ fn check_bits(bytes: &[u8]) -> Result<(), Refusal>
     ensures refused { refusal_of result ≡ byte_row 0 bytes.now }
     ensures bits { OnOk result (Bits bytes.now) }
 {
-    // A loop, as over cells: `position` would have the byte looked up again.
+    // A rule of the project: a loop with the place, and the first fault ends it.
     for (place, byte) in bytes.iter().enumerate() {
         if *byte > 1 {
             return Err(Refusal::At {

@@ -19,7 +19,8 @@ pub struct Code {
 }
 
 impl Code {
-    // The code of order r in m variables. Refuses more than eight variables, and an order above their number.
+    // The code of order r in m variables. Refuses more than eight variables, and an order above their number. A narrower type for m and r would ask
+    // more of callers, here and in the calls on messages and tables.
     pub fn new(m: u32, r: u32) -> Result<Code, Refusal>
         ensures refused { refusal_of result ≡ dimension_row m r }
         ensures code { IfOk result (λ code. (code.variables ≡ m) × (code.order ≡ r)) }

@@ -11,7 +11,8 @@ use crate::code::Code;
 use crate::polynomial::Polynomial;
 use crate::refusals::Refusal;
 
-// The code of a message. Refuses what cannot be encoded into so much room.
+// The code of a message. Refuses what cannot be encoded into so much room. It does not answer the polynomial itself: the prover does not cover `?`
+// on a struct that holds a slice and ghost fields.
 fn check_message(m: u32, r: u32, message: &[u8], room: usize) -> Result<Code, Refusal>
     ensures refused { refusal_of result ≡ encode_row m r message.now room }
     ensures sizes { OnOk result ((m ≤ 8) × (2 ^ m ≤ room)) }

@@ -12,7 +12,7 @@ use crate::code::Code;
 use crate::refusals::Refusal;
 use crate::table::Table;
 
-// The code of a table. Refuses what cannot be read back into so much room.
+// The code of a table. Refuses what cannot be read back into so much room. As for a message, it cannot answer the table itself.
 fn check_table(m: u32, r: u32, table: &[u8], room: usize) -> Result<Code, Refusal>
     ensures refused { ReadBackRow m r table.now room (refusal_of result) }
     ensures sizes { OnOk result ((m ≤ 8) × (dimension m r ≤ room)) }
@@ -38,7 +38,5 @@ pub fn read_back(m: u32, r: u32, table: &[u8], message: &mut [u8]) -> Result<usi
     ensures inversion { SumsOfPartsInvert }
 {
     let code = check_table(m, r, table, message.len())?;
-    let k = code.dimension();
-    Table { code, bits: table }.write_message(message);
-    Ok(k)
+    Ok(Table { code, bits: table }.write_message(message))
 }

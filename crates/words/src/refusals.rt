@@ -25,11 +25,10 @@ impl Fault {
     pub fn number(&self) -> u8
         ensures { result ≡ fault_row self.now }
     {
+        // By a match: a case with fields has no number of its own that could be cast.
         match self {
             Fault::Byte(_) => 8,
-            Fault::NotANumber => 9,
-            Fault::Level(_) => 9,
-            Fault::Levels(_, _) => 9,
+            Fault::NotANumber | Fault::Level(_) | Fault::Levels(_, _) => 9,
         }
     }
 }
@@ -82,7 +81,7 @@ impl Refusal {
     pub fn number(&self) -> u8
         ensures { result ≡ number (told self.now) }
     {
-        // By a match: a case with fields has no number of its own that could be cast.
+        // By a match here too.
         match self {
             Refusal::Variables => 1,
             Refusal::Order => 2,

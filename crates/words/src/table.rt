@@ -16,7 +16,8 @@ pub(crate) struct Table<'a> {
 }
 
 impl Table<'_> {
-    // The coefficient of a monomial: the parity of the table over the points inside the monomial.
+    // The coefficient of a monomial: the parity of the table over the points inside the monomial. Not one function with `Polynomial::value_at`: for
+    // any iterator its contract would have to say which pairs come.
     fn coefficient_of(&self, mono: usize) -> u8
         ensures { result ≡ coefficient self.now.code.variables self.now.bits.now mono }
     {
@@ -31,23 +32,20 @@ impl Table<'_> {
     pub(crate) fn is_low(&self) -> bool
         ensures { IsTrue result ↔ Degree≤ self.now.code.variables self.now.code.order self.now.bits.now }
     {
-        // A loop: with `all` over the range the check leaves the result open, and its lemma is longer than this.
-        for mono in 0..self.code.points() {
-            if !is_admitted(self.code.order, mono) && self.coefficient_of(mono) != 0 {
-                return false;
-            }
-        }
-        true
+        (0..self.code.points()).all(|mono| is_admitted(self.code.order, mono)
+            || self.coefficient_of(mono) == 0)
     }
 
-    // Writes the coefficients of the admitted monomials into the front of the buffer, in prefix order.
-    pub(crate) fn write_message(&self, message: &mut [u8])
+    // Writes the coefficients of the admitted monomials into the front of the buffer, in prefix order, and answers how many they are.
+    pub(crate) fn write_message(&self, message: &mut [u8]) -> usize
         requires room { dimension self.now.code.variables self.now.code.order ≤ length message.old }
-        ensures { message.new ≡ coefficients self.now.code.variables self.now.code.order self.now.bits.now ++ drop (dimension self.now.code.variables self.now.code.order) message.old }
+        ensures length { result ≡ dimension self.now.code.variables self.now.code.order }
+        ensures written { message.new ≡ coefficients self.now.code.variables self.now.code.order self.now.bits.now ++ drop result message.old }
     {
-        // By place: after a zip with `iter_mut` the proof knows no byte of the buffer.
+        // By place: after `message.iter_mut().zip(..)` nothing is known of what was written, so `written` stays open.
         for (place, mono) in self.code.monomials().enumerate() {
             message[place] = self.coefficient_of(mono);
         }
+        self.code.dimension()
     }
 }

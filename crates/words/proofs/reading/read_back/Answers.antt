@@ -29,7 +29,7 @@ returns-in_err-code-clause-inversion c = inversion
 pub returns-clause-written : goal.returns-clause-written
 returns-clause-written c =
     let table = c.args.table.now in
-    let k : c.dimension-k.result ≡ dimension c.args.m c.args.r = search rules in
+    let k : c.write_message.result ≡ dimension c.args.m c.args.r = search rules in
     let written : c.write_message.new.message ≡ coefficients c.args.m c.args.r table ++ drop (dimension c.args.m c.args.r) c.args.message.now = search rules in (
       k,
       message_in_front c.args.m c.args.r c.args.message.now _ _ table k written c.in_ok-code.ensures.word.0 c.in_ok-code.ensures.word.1,
@@ -38,7 +38,7 @@ returns-clause-written c =
 
 pub returns-clause-undoes_encode : goal.returns-clause-undoes_encode
 returns-clause-undoes_encode c =
-    let reads : ReadsBack c.args.m c.args.r c.args.table.now (take c.dimension-k.result c.write_message.new.message)
+    let reads : ReadsBack c.args.m c.args.r c.args.table.now (take c.write_message.result c.write_message.new.message)
     = message_in_front c.args.m c.args.r c.args.message.now _ _ c.args.table.now (search rules) (search rules) c.in_ok-code.ensures.word.0 c.in_ok-code.ensures.word.1 in
     λ sent e few low long. sym (reads.only sent e)
 
