@@ -29,7 +29,8 @@ fn check_word(m: u32, weights: &[i8], word: &[u8]) -> Result<(), Refusal>
     check_bytes(word, n, 0, 0)
 }
 
-// The cost of a word of m variables under weights: the sum of the sizes of the weights that it contradicts.
+// The cost of a word of m variables under weights: the sum of the sizes of the weights that it contradicts. A narrower type for m would ask more of
+// callers.
 #[tactic(auto, using(crate::proofs::Distances::cost_is_distance, crate::proofs::Distances::widest_radius))]
 pub fn cost(m: u32, weights: &[i8], word: &[u8]) -> Result<u32, Refusal>
     ensures refused { refusal_of result ≡ cost_row m weights.now word.now }

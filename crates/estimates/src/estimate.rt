@@ -8,7 +8,7 @@ pub trait Estimate {
     // The number for each prefix, from m, r and the weights.
     ghost rule: { Self → Rule };
 
-    // The number of the rule. The four are asked as they are, whatever they are: a struct would promise no more of them.
+    // The number of the rule. The four are asked as they are, also where they fit nothing, and whoever supplies an estimate writes this signature.
     fn ask(&self, m: u32, r: u32, weights: &[i8], prefix: &[u8]) -> u32
         ensures { result ≡ rule self.now m r weights.now prefix.now };
 

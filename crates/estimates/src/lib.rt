@@ -2,10 +2,10 @@
 
 #![tactic(auto)]
 
-mod choice;
 mod estimate;
 mod greater;
 mod plain;
+mod two_kinds;
 
 pub use either::Either;
 pub use estimate::Estimate;

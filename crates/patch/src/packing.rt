@@ -66,9 +66,7 @@ fn check_packed(m: u32, bytes: &[u8], room: usize) -> Result<usize, Flaw>
     ensures held { IfOk result (λ n. n ≤ 8 * length bytes.now) }
     ensures fits { IfOk result (λ n. n ≤ room) }
 {
-    let Ok(variables) = Variables::try_from(m) else {
-        return Err(Flaw::Variables);
-    };
+    let variables = Variables::try_from(m).map_err(|_| Flaw::Variables)?;
     if bytes.len() != bytes_for(&variables) {
         return Err(Flaw::Count);
     }
@@ -81,7 +79,7 @@ fn check_packed(m: u32, bytes: &[u8], room: usize) -> Result<usize, Flaw>
 }
 
 // Writes the cells of m variables that the bytes hold into the first n = 2^m of the buffer, and answers n.
-// By the project's rule a refusal is a plain number.
+// By the project's rule a refusal is a plain number. A narrower type for m would ask more of callers.
 pub fn unpack(m: u32, bytes: &[u8], cells: &mut [Bit]) -> Result<usize, u8>
     ensures refused { row_of result ≡ unpack_row m bytes.now (length cells.old) }
     ensures written { MatchResult result (λ n. (n ≡ 2 ^ m) × (cells.new ≡ as_cells (unpacked n bytes.now) ++ drop n cells.old)) (λ _. cells.new ≡ cells.old) }

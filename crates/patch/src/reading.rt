@@ -27,9 +27,7 @@ fn patch_of(file: &[u8]) -> Result<Patch<'_>, Flaw>
     ensures patch { IfOk result (λ p. IsOf file.now p) }
 {
     let header = read_header(file)?;
-    let Ok(variables) = Variables::try_from(header.variables) else {
-        return Err(Flaw::Variables);
-    };
+    let variables = Variables::try_from(header.variables).map_err(|_| Flaw::Variables)?;
     if header.order > header.variables {
         return Err(Flaw::Order);
     }

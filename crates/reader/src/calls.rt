@@ -4,7 +4,7 @@ ghost use Rattle.words.specs.Refusals.{refusal_of};
 ghost use Rattle.cells.specs.Readings.{Weighed};
 ghost use Rattle.runs.specs.Traces.{Trace, event, set_call, radius_call, load_call, rewind_call, shape_of, weights_of};
 ghost use Rattle.runs.specs.Answers.{done_or};
-ghost use Rattle.runs.specs.Rows.{unset_row, set_row, radius_row, load_row, rewind_row};
+ghost use Rattle.runs.specs.Rows.{wide_row, unset_row, set_row, radius_row, load_row, rewind_row};
 ghost use Rattle.runs.specs.CallLaws.{SetLaw, RadiusLaw, LoadLaw, RewindLaw};
 ghost use Rattle.runs.specs.States.{LedTo, set_to, with_radius, with_weights, rewound};
 ghost use Rattle.runs.specs.States.{new as new_state};
@@ -17,20 +17,26 @@ use words::{Code, Refusal};
 // The widest radius: no word costs more.
 const WIDEST: u32 = 32_512;
 
+// Refuses a radius above the widest.
+fn check_radius(radius: u32) -> Result<(), Refusal>
+    ensures { refusal_of result ≡ wide_row radius None }
+{
+    if radius > WIDEST {
+        return Err(Refusal::Radius);
+    }
+    Ok(())
+}
+
 impl Reader {
     // A reader that is not set.
     pub fn new() -> Reader
         ensures state { view result ≡ new_state }
         ensures history { LedTo [] (view result) }
     {
-        Reader {
-            setting: None,
-            weights: None,
-            last: None,
-        }
+        Reader { setting: None }
     }
 
-    // What the reader has been set to.
+    // What the reader has been set to, and what has come since.
     pub(crate) fn setting(&self) -> Result<Setting, Refusal>
         ensures refused { refusal_of result ≡ unset_row (view self.now).shape (λ _. None) }
         ensures setting { IfOk result (λ setting. self.now.setting ≡ Some setting) }
@@ -38,30 +44,21 @@ impl Reader {
         self.setting.ok_or(Refusal::Unset)
     }
 
-    // Refuses a reader that is not set or has no cells.
-    pub(crate) fn check_loaded(&self) -> Result<(), Refusal>
-        ensures refused { refusal_of result ≡ rewind_row (view self.now).shape (view self.now).weights }
-    {
-        self.setting()?;
-        if self.weights.is_none() {
-            return Err(Refusal::NoCells);
-        }
-        Ok(())
-    }
-
-    // Sets the number of variables, the order and the radius. The reader is then without cells, and nothing is handed out.
+    // Sets the number of variables, the order and the radius, whatever they are: a narrower type would ask more of callers. The reader is then without
+    // cells, and nothing is handed out.
     pub fn set(&mut self, m: u32, r: u32, radius: u32) -> Result<(), Refusal>
         ensures refused { refusal_of result ≡ set_row m r radius }
         ensures state { MatchResult result (λ _. view self.new ≡ set_to m r radius) (λ _. self.new ≡ self.old) }
         ensures history { (h : Trace) → LedTo h (view self.old) → SetLaw m r radius (done_or result) × LedTo (event (set_call m r radius) (done_or result) [] ∷ h) (view self.new) }
     {
         let code = Code::new(m, r)?;
-        if radius > WIDEST {
-            return Err(Refusal::Radius);
-        }
-        self.setting = Some(Setting { code, radius });
-        self.weights = None;
-        self.last = None;
+        check_radius(radius)?;
+        self.setting = Some(Setting {
+            code,
+            radius,
+            weights: None,
+            last: None,
+        });
         Ok(())
     }
 
@@ -71,12 +68,9 @@ impl Reader {
         ensures state { MatchResult result (λ _. view self.new ≡ with_radius radius (view self.old)) (λ _. self.new ≡ self.old) }
         ensures history { (h : Trace) → LedTo h (view self.old) → RadiusLaw (shape_of h) radius (done_or result) × LedTo (event (radius_call radius) (done_or result) [] ∷ h) (view self.new) }
     {
-        if radius > WIDEST {
-            return Err(Refusal::Radius);
-        }
-        let setting = self.setting()?;
+        check_radius(radius)?;
+        let setting = self.setting()?.rewound();
         self.setting = Some(Setting { radius, ..setting });
-        self.last = None;
         Ok(())
     }
 
@@ -86,8 +80,9 @@ impl Reader {
         ensures state { MatchResult result (λ _. view self.new ≡ rewound (view self.old)) (λ _. self.new ≡ self.old) }
         ensures history { (h : Trace) → LedTo h (view self.old) → RewindLaw (shape_of h) (weights_of h) (done_or result) × LedTo (event rewind_call (done_or result) [] ∷ h) (view self.new) }
     {
-        self.check_loaded()?;
-        self.last = None;
+        let setting = self.setting()?;
+        setting.weights.ok_or(Refusal::NoCells)?;
+        self.setting = Some(setting.rewound());
         Ok(())
     }
 
@@ -97,15 +92,17 @@ impl Reader {
         ensures state { MatchResult result (λ _. (weights : List ℤ) × Weighed (map C.Cell.reading cells.now) weights × (view self.new ≡ with_weights weights (view self.old))) (λ _. self.new ≡ self.old) }
         ensures history { (h : Trace) → LedTo h (view self.old) → LoadLaw (shape_of h) (map C.Cell.reading cells.now) (done_or result) × LedTo (event (load_call (map C.Cell.reading cells.now)) (done_or result) [] ∷ h) (view self.new) }
     {
-        let code = self.setting()?.code;
-        if cells.len() != code.points() {
+        let setting = self.setting()?;
+        if cells.len() != setting.code.points() {
             return Err(Refusal::Length);
         }
         // No heap: as many as a mark can have.
         let mut weights = [0; 256];
         weigh(cells, &mut weights)?;
-        self.weights = Some(weights);
-        self.last = None;
+        self.setting = Some(Setting {
+            weights: Some(weights),
+            ..setting.rewound()
+        });
         Ok(())
     }
 }

@@ -1,13 +1,13 @@
 // An estimate that is one of two.
 ghost use Rattle.either.specs.declared.Either.TheVariants.{Left, Right};
-ghost use Rattle.estimates.specs.Choices.{choice_rule};
+ghost use Rattle.estimates.specs.Eithers.{either_rule};
 
 use crate::estimate::Estimate;
 use either::{Either, for_both};
 
 // One of two estimates, of any two types, so that calls with either can stand in one list.
 impl<A: Estimate, B: Estimate> Estimate for Either<A, B> {
-    ghost rule = { choice_rule A.Estimate.rule B.Estimate.rule };
+    ghost rule = { either_rule A.Estimate.rule B.Estimate.rule };
 
     ghost lawful = { elim [
       | Left one ↦ A.Estimate.lawful one

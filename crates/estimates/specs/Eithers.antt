@@ -4,5 +4,5 @@ use Rattle.either.specs.Either.{either}
 use Rattle.rules.specs.Rules.{Rule}
 
 -- the rule of the one that is there
-abbrev pub choice_rule : {A B : Type 0} → (A → Rule) → (B → Rule) → Either A B → Rule
-choice_rule one other = either one other
+abbrev pub either_rule : {A B : Type 0} → (A → Rule) → (B → Rule) → Either A B → Rule
+either_rule one other = either one other
