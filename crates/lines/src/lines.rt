@@ -27,6 +27,7 @@ pub fn roll_line(name: &[u8], line: &mut [u8]) -> Result<usize, Refusal>
 }
 
 // Writes the line of a word that was listed: its message of order r in m variables, its cost and a count. Answers the line's length.
+// m and r are plain numbers: a `Code` would ask more of callers.
 pub fn word_line(
     m: u32,
     r: u32,
@@ -82,6 +83,7 @@ pub fn stop_line(line: &mut [u8]) -> Result<usize, Refusal>
 }
 
 // Writes the line of what was refused with this row, and answers its length.
+// The row is a plain number: a type for rows would ask more of callers.
 pub fn refused_line(row: u8, line: &mut [u8]) -> Result<usize, Refusal>
     ensures refused { refusal_of result ≡ room_row (length line.old) (length (refused_line row)) None }
     ensures written { Wrote (refused_line row) line.old line.new result }

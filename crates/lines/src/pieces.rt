@@ -54,17 +54,25 @@ fn put_bytes(bytes: &[u8], line: &mut [u8]) -> usize
     bytes.len()
 }
 
+// A bit as a digit.
+fn digit(bit: u8) -> u8
+    ensures { result ≡ digit bit }
+{
+    if bit == 0 { b'0' } else { b'1' }
+}
+
 // Puts bits as the digits 0 and 1 into the front of the buffer, and answers how many they are.
 fn put_bits(bits: &[u8], line: &mut [u8]) -> usize
     requires { length bits.now ≤ length line.old }
     ensures after { result ≡ length bits.now }
     ensures put { line.new ≡ map digit bits.now ++ drop result line.old }
 {
-    // By place: after a zip with `iter_mut` the proof knows no byte of the buffer.
-    for (i, bit) in bits.iter().enumerate() {
-        line[i] = if *bit == 0 { b'0' } else { b'1' };
+    // In place: with `line.iter_mut().zip(bits)` the goal `returns-clause-put` stays open.
+    let n = put_bytes(bits, line);
+    for cell in line[..n].iter_mut() {
+        *cell = digit(*cell);
     }
-    bits.len()
+    n
 }
 
 // How many bytes the pieces have together.
@@ -81,7 +89,7 @@ pub(crate) fn put(pieces: &[Piece], line: &mut [u8]) -> usize
     ensures after { result ≡ length (text pieces.now) }
     ensures put { line.new ≡ text pieces.now ++ drop result line.old }
 {
-    // A loop: of a buffer that a closure changes, as in a fold, the proof would know nothing.
+    // A loop: in a fold the closure writes the buffer, and `returns-clause-put`, what the buffer then holds, stays open.
     let mut end = 0;
     for piece in pieces {
         end += piece.put(&mut line[end..]);
