@@ -31,6 +31,7 @@ const GRADE: [u8; LENGTH] = [
 const DAMAGED: usize = 27;
 
 // How many cells stand in a row of the picture of a mark: a square where m is even, twice as wide as high where it is odd.
+// m is a plain number: a `Variables` of the constant would be one more answer to match.
 fn width(m: u32) -> usize
     requires { m ≤ 8 }
     ensures { result ≡ 2 ^ ((m + 1) / 2) }
@@ -74,7 +75,7 @@ fn show(rt: &HostRuntime, mark: &[u8]) -> io::Result<()> {
     Ok(())
 }
 
-// Prints the row that refused a call.
+// Prints the row that refused a call. Each answer is matched where it is asked for: one helper for both arms would take a closure with a `requires`.
 fn print_refused(rt: &HostRuntime, row: u8) -> io::Result<()> {
     println!(rt; "refused {row}")
 }

@@ -1,6 +1,5 @@
 // A mark that comes as a patch file: the file is read, its roll and its cells are shown, and the cost of the grade's own mark; then its header is damaged.
 ghost use Rattle.std.specs.Prelude.{◌≡◌, ◌≤◌, map, length, IfOk};
-ghost use Rattle.polynomials.specs.Words.{Table};
 ghost use Rattle.cells.specs.Costs.{distance};
 
 use crate::{print_refused, show};
@@ -29,24 +28,23 @@ fn bytes_of(heap: Global, cells: &[Bit]) -> Result<Vec<u8>, AllocError>
 }
 
 // What a mark costs against bit cells: at how many points it differs from them.
-fn cost_against(cells: &[Bit], m: u32, mark: &[u8]) -> Result<u32, Refusal>
-    ensures { Table m mark.now → IfOk result (λ paid. paid ≡ distance m (map (λ cell. cell.byte) cells.now) mark.now) }
+fn cost_against(cells: &[Bit], weights: &mut [i8], m: u32, mark: &[u8]) -> Result<u32, Refusal>
+    ensures { IfOk result (λ paid. paid ≡ distance m (map (λ cell. cell.byte) cells.now) mark.now) }
 {
-    // Fixed memory, as a caller without a heap would have: a mark has at most 256 cells.
-    let mut weights = [0i8; 256];
-    let n = weigh(cells, &mut weights)?;
+    let n = weigh(cells, weights)?;
     cost(m, &weights[..n], mark)
 }
 
-// Has a line written, and prints it, or the row that refused it.
+// Has a line written with room for so many bytes, and prints it, or the row that refused it.
 fn print_line<F: FnOnce(&mut [u8]) -> Result<usize, Refusal>>(
     rt: &HostRuntime,
+    room: usize,
     write: F,
 ) -> io::Result<()>
     requires callable { F.IsAlwaysCallable write }
     requires bound { (line : _) (answer : _) (after : _) → F.post write line answer after → IfOk answer (λ n. n ≤ length line.now) }
 {
-    let mut line = [0u8; 64];
+    let mut line = vec![in rt.alloc(); 0u8; room]?;
     match write(&mut line) {
         Ok(n) => rt.stdout().write_all(&line[..n]),
         Err(refusal) => print_refused(rt, refusal.number()),
@@ -55,15 +53,14 @@ fn print_line<F: FnOnce(&mut [u8]) -> Result<usize, Refusal>>(
 
 // Prints the cells that a patch file brings, and what a mark costs against them.
 fn show_cells(rt: &HostRuntime, patch: &Patch<'_>, mark: &[u8]) -> io::Result<()> {
-    // Fixed memory here too.
-    let mut cells = [Bit { byte: 0 }; 256];
-    let n = match unpack(patch.header.variables, patch.cells, &mut cells) {
-        Ok(n) => n,
-        Err(row) => return print_refused(rt, row),
-    };
-    let cells = &cells[..n];
-    show(rt, &bytes_of(rt.alloc(), cells)?)?;
-    match cost_against(cells, patch.header.variables, mark) {
+    let m = patch.header.variables;
+    let mut cells = vec![in rt.alloc(); Bit { byte: 0 }; patch.header.count]?;
+    if let Err(row) = unpack(m, patch.cells, &mut cells) {
+        return print_refused(rt, row);
+    }
+    show(rt, &bytes_of(rt.alloc(), &cells)?)?;
+    let mut weights = vec![in rt.alloc(); 0i8; cells.len()]?;
+    match cost_against(&cells, &mut weights, m, mark) {
         Ok(paid) => println!(rt; "The cost of the grade's mark against these cells: {paid}"),
         Err(refusal) => print_refused(rt, refusal.number()),
     }
@@ -73,10 +70,11 @@ fn show_cells(rt: &HostRuntime, patch: &Patch<'_>, mark: &[u8]) -> io::Result<()
 fn show_file(rt: &HostRuntime, file: &[u8], mark: &[u8]) -> io::Result<()> {
     match read_patch(file) {
         Ok(patch) => {
-            print_line(rt, |line| roll_line(patch.name, line))?;
+            let name = patch.name;
+            print_line(rt, name.len() + 6, |line| roll_line(name, line))?;
             show_cells(rt, &patch, mark)
         }
-        Err(row) => print_line(rt, |line| refused_line(row, line)),
+        Err(row) => print_line(rt, 12, |line| refused_line(row, line)),
     }
 }
 
