@@ -1,6 +1,7 @@
 // Patch files at the edges, and packed cells.
 ghost use Rattle.std.specs.Prelude.{◌≡◌, ◌++◌, take, replicate, IfOk};
 
+use crate::printing::print_answer;
 use cells::Bit;
 use patch::{Patch, read_patch, unpack};
 use std::alloc::{AllocError, Global};
@@ -126,10 +127,7 @@ fn begun_with(heap: Global, size: usize, bytes: &[u8; 15]) -> Result<Vec<u8>, Al
 // Reads a file of so many bytes that begins with these, and prints the answer.
 fn ask_file(rt: &HostRuntime, size: usize, bytes: &[u8; 15]) -> io::Result<()> {
     let file = begun_with(rt.alloc(), size, bytes)?;
-    match read_patch(&file) {
-        Ok(patch) => print_patch(rt, &patch),
-        Err(row) => println!(rt; "refused {row}"),
-    }
+    print_answer(rt, read_patch(&file), |patch| print_patch(rt, &patch))
 }
 
 // Tries each of the files, and prints its size, its first bytes and the answer.
@@ -141,19 +139,26 @@ pub(crate) fn files(rt: &HostRuntime) -> io::Result<()> {
     Ok(())
 }
 
-// Unpacks with room for so many cells, and prints the question, with the bytes as this text, and the answer.
-fn ask_unpack(rt: &HostRuntime, m: u32, text: &str, bytes: &[u8], room: usize) -> io::Result<()> {
-    print!(rt; "unpack, m={m}, {text}, room {room}: ")?;
+// Unpacks with room for so many cells, and prints the question and the answer.
+fn ask_unpack(rt: &HostRuntime, m: u32, bytes: &[u8], room: usize) -> io::Result<()> {
+    print!(rt; "unpack, m={m},")?;
+    if bytes.is_empty() {
+        print!(rt; " no bytes")?;
+    }
+    for byte in bytes {
+        print!(rt; " {byte}")?;
+    }
+    print!(rt; ", room {room}: ")?;
     print_unpacked(rt, m, bytes, room)
 }
 
 // The rows of unpack, and all bits of a byte.
 pub(crate) fn unpackings(rt: &HostRuntime) -> io::Result<()> {
-    ask_unpack(rt, 3, "165", &[165], 8)?;
-    ask_unpack(rt, 4, "1 128", &[1, 128], 16)?;
-    ask_unpack(rt, 1, "64", &[64], 4)?;
-    ask_unpack(rt, 9, "no bytes", &[], 0)?;
-    ask_unpack(rt, 4, "1", &[1], 0)?;
-    ask_unpack(rt, 2, "8", &[8], 3)?;
-    ask_unpack(rt, 2, "8", &[8], 4)
+    ask_unpack(rt, 3, &[165], 8)?;
+    ask_unpack(rt, 4, &[1, 128], 16)?;
+    ask_unpack(rt, 1, &[64], 4)?;
+    ask_unpack(rt, 9, &[], 0)?;
+    ask_unpack(rt, 4, &[1], 0)?;
+    ask_unpack(rt, 2, &[8], 3)?;
+    ask_unpack(rt, 2, &[8], 4)
 }

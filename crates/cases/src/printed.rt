@@ -1,5 +1,5 @@
 // The printed lines: with room to spare, with just the room, and with too little.
-use crate::printing::print_refusal;
+use crate::printing::print_answer;
 use lines::{end_line, refused_line, roll_line, stop_line, word_line};
 use std::io;
 use std::io::Write;
@@ -16,10 +16,7 @@ fn ask<F: Fn(&mut [u8]) -> Result<usize, Refusal>>(
     for room in rooms {
         let mut buffer = vec![in rt.alloc(); b'.'; *room]?;
         print!(rt; "line, room {room}: ")?;
-        match line(&mut buffer) {
-            Ok(n) => println!(rt; "{n} bytes")?,
-            Err(refusal) => print_refusal(rt, refusal)?,
-        }
+        print_answer(rt, line(&mut buffer), |n| println!(rt; "{n} bytes"))?;
         rt.stdout().write_all(&buffer)?;
         println!(rt; "|")?;
     }

@@ -1,9 +1,8 @@
 // Answers as text.
-ghost use Rattle.std.specs.Prelude.{Some};
+ghost use Rattle.std.specs.Prelude.{IfOk, Some};
 ghost use Rattle.cases.specs.Digits.{digits_of};
 
 use std::{fmt, io};
-use words::{Fault, Refusal};
 
 // Bytes that are printed as digits.
 #[derive(Clone, Copy)]
@@ -20,23 +19,16 @@ impl fmt::Display for Digits<'_> {
     }
 }
 
-// Prints the row of a fault, and what was found.
-pub(crate) fn print_fault(rt: &HostRuntime, fault: Fault) -> io::Result<()> {
-    println!(rt; "refused {}, {fault}", fault.number())
-}
-
-// Prints the row of a refusal with what comes with it.
-pub(crate) fn print_refusal(rt: &HostRuntime, refusal: Refusal) -> io::Result<()> {
-    println!(rt; "refused {refusal}")
-}
-
-// Prints a number that a call answered, or what refused the call.
-pub(crate) fn print_number<T: fmt::Display + Drop>(
+// Prints what a call answered, as its caller does, or what refused the call.
+pub(crate) fn print_answer<T: Drop, E: fmt::Display + Drop, F: FnOnce(T) -> io::Result<()>>(
     rt: &HostRuntime,
-    answer: Result<T, Refusal>,
-) -> io::Result<()> {
+    answer: Result<T, E>,
+    print: F,
+) -> io::Result<()>
+    requires { IfOk answer (λ value. F.pre print value) }
+{
     match answer {
-        Ok(number) => println!(rt; "{number}"),
-        Err(refusal) => print_refusal(rt, refusal),
+        Ok(value) => print(value),
+        Err(refusal) => println!(rt; "refused {refusal}"),
     }
 }

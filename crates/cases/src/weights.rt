@@ -1,5 +1,5 @@
 // Pixels at the edges, lists of cells with faults, and costs.
-use crate::printing::{print_fault, print_number, print_refusal};
+use crate::printing::print_answer;
 use crate::strength::Strength;
 use cells::{Bit, Cell, Pixel, check_cells, cost, weigh};
 use std::io;
@@ -28,7 +28,7 @@ const LEVELS: [u32; 15] = [
 fn print_reading<C: Cell>(rt: &HostRuntime, cell: &C) -> io::Result<()> {
     match cell.read() {
         Ok(weight) => println!(rt; "weighs {weight}"),
-        Err(fault) => print_fault(rt, fault),
+        Err(fault) => println!(rt; "refused {}, {fault}", fault.number()),
     }
 }
 
@@ -60,19 +60,14 @@ fn ask_bit(rt: &HostRuntime, byte: u8) -> io::Result<()> {
 
 // Checks a list of cells, then weighs it with room for so many weights, and prints the question, with the cells as this text, the answers and the
 // weights, which were 7 before.
+// The text is given beside the cells: each kind prints in its own way, and two of them are types of another crate.
 fn ask_list<C: Cell>(rt: &HostRuntime, text: &str, cells: &[C], room: usize) -> io::Result<()> {
     let mut weights = vec![in rt.alloc(); 7i8; room]?;
     print!(rt; "{text}, room {room}: ")?;
-    match check_cells(cells) {
-        Ok(()) => println!(rt; "checked")?,
-        Err(refusal) => print_refusal(rt, refusal)?,
-    }
+    print_answer(rt, check_cells(cells), |()| println!(rt; "checked"))?;
     match weigh(cells, &mut weights) {
         Ok(n) => println!(rt; "    {n} cells weighed, the weights {weights:?}"),
-        Err(refusal) => {
-            print!(rt; "    the weights {weights:?}, ")?;
-            print_refusal(rt, refusal)
-        }
+        Err(refusal) => println!(rt; "    the weights {weights:?}, refused {refusal}"),
     }
 }
 
@@ -116,7 +111,7 @@ pub(crate) fn lists(rt: &HostRuntime) -> io::Result<()> {
 // Asks for a cost, and prints the question and the answer.
 fn ask_cost(rt: &HostRuntime, m: u32, weights: &[i8], word: &[u8]) -> io::Result<()> {
     print!(rt; "cost, m={m} weights {weights:?} word {word:?}: ")?;
-    print_number(rt, cost(m, weights, word))
+    print_answer(rt, cost(m, weights, word), |paid| println!(rt; "{paid}"))
 }
 
 // Costs, the rows that refuse one, and the largest.
@@ -130,5 +125,6 @@ pub(crate) fn costs(rt: &HostRuntime) -> io::Result<()> {
     ask_cost(rt, 1, &[1, 1], &[2])?;
     ask_cost(rt, 1, &[1, 1], &[0, 2])?;
     print!(rt; "cost, m=8 weights all 127 word all 1: ")?;
-    print_number(rt, cost(8, &[127i8; 256], &[1u8; 256]))
+    let answer = cost(8, &[127i8; 256], &[1u8; 256]);
+    print_answer(rt, answer, |paid| println!(rt; "{paid}"))
 }
