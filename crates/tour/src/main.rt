@@ -6,12 +6,12 @@
 mod reel;
 mod text;
 
-ghost use Rattle.std.specs.Prelude.{◌≡◌, ◌+◌, ◌/◌, ◌^◌, ◌<◌, ◌≤◌, length, MatchResult, bit_xor, slice_index, slice_set};
+ghost use Rattle.std.specs.Prelude.{◌≡◌, ◌+◌, ◌/◌, ◌^◌, ◌<◌, ◌≤◌, length, IfOk, MatchResult, bit_xor, slice_index, slice_set};
 ghost use Rattle.polynomials.specs.Words.{word_of};
 ghost use Rattle.words.specs.Refusals.{refusal_of, byte_row};
 
 use reel::reel;
-use std::io;
+use std::{fmt, io};
 use text::{Spelled, digits};
 use words::{Refusal, encode, read_back};
 
@@ -75,9 +75,18 @@ fn show(rt: &HostRuntime, mark: &[u8]) -> io::Result<()> {
     Ok(())
 }
 
-// Prints the row that refused a call. Each answer is matched where it is asked for: one helper for both arms would take a closure with a `requires`.
-fn print_refused(rt: &HostRuntime, row: u8) -> io::Result<()> {
-    println!(rt; "refused {row}")
+// Prints what a call answered, as its caller does, or what refused the call.
+fn print_answer<T: Drop, E: fmt::Display + Drop, F: FnOnce(T) -> io::Result<()>>(
+    rt: &HostRuntime,
+    answer: Result<T, E>,
+    print: F,
+) -> io::Result<()>
+    requires { IfOk answer (λ value. F.pre print value) }
+{
+    match answer {
+        Ok(value) => print(value),
+        Err(refusal) => println!(rt; "refused {refusal}"),
+    }
 }
 
 // Prints what reading back answered, and what the buffer for the message then holds.
@@ -86,8 +95,7 @@ fn report(rt: &HostRuntime, answer: Result<usize, Refusal>, found: &[u8]) -> io:
     match answer {
         Ok(_) => println!(rt; "Read back: {message}"),
         Err(refusal) => println!(rt;
-            "Read back: refused {}. The buffer for the message is as before: {message}",
-            refusal.number()
+            "Read back: refused {refusal}. The buffer for the message is as before: {message}"
         ),
     }
 }
@@ -98,7 +106,7 @@ fn main(rt: HostRuntime) -> io::Result<()> {
     println!(rt; "A grade, as a message of order {ORDER} in {VARIABLES} variables:")?;
     println!(rt; "    {}", digits(&GRADE))?;
     if let Err(refusal) = round_trip(&GRADE, &mut mark, &mut found) {
-        return print_refused(&rt, refusal.number());
+        return println!(rt; "refused {refusal}");
     }
     println!(rt; "Its mark, a word of {CELLS} cells, ## for 1 and .. for 0:")?;
     show(&rt, &mark)?;

@@ -2,7 +2,7 @@
 ghost use Rattle.std.specs.Prelude.{◌≡◌, ◌≤◌, map, length, IfOk};
 ghost use Rattle.cells.specs.Costs.{distance};
 
-use crate::{print_refused, show};
+use crate::{print_answer, show};
 use cells::{Bit, cost, weigh};
 use lines::{refused_line, roll_line};
 use patch::{Patch, read_patch, unpack};
@@ -35,7 +35,7 @@ fn cost_against(cells: &[Bit], weights: &mut [i8], m: u32, mark: &[u8]) -> Resul
     cost(m, &weights[..n], mark)
 }
 
-// Has a line written with room for so many bytes, and prints it, or the row that refused it.
+// Has a line written with room for so many bytes, and prints it, or what refused it.
 fn print_line<F: FnOnce(&mut [u8]) -> Result<usize, Refusal>>(
     rt: &HostRuntime,
     room: usize,
@@ -45,25 +45,26 @@ fn print_line<F: FnOnce(&mut [u8]) -> Result<usize, Refusal>>(
     requires bound { (line : _) (answer : _) (after : _) → F.post write line answer after → IfOk answer (λ n. n ≤ length line.now) }
 {
     let mut line = vec![in rt.alloc(); 0u8; room]?;
-    match write(&mut line) {
-        Ok(n) => rt.stdout().write_all(&line[..n]),
-        Err(refusal) => print_refused(rt, refusal.number()),
-    }
+    print_answer(rt, write(&mut line), |n| rt.stdout().write_all(&line[..n]))
 }
 
-// Prints the cells that a patch file brings, and what a mark costs against them.
+// Prints cells, and what a mark costs against them.
+fn show_cost(rt: &HostRuntime, cells: &[Bit], m: u32, mark: &[u8]) -> io::Result<()> {
+    show(rt, &bytes_of(rt.alloc(), cells)?)?;
+    let mut weights = vec![in rt.alloc(); 0i8; cells.len()]?;
+    print_answer(
+        rt,
+        cost_against(cells, &mut weights, m, mark),
+        |paid| println!(rt; "The cost of the grade's mark against these cells: {paid}"),
+    )
+}
+
+// Unpacks the cells that a patch file brings, and prints them and what a mark costs against them.
 fn show_cells(rt: &HostRuntime, patch: &Patch<'_>, mark: &[u8]) -> io::Result<()> {
     let m = patch.header.variables;
     let mut cells = vec![in rt.alloc(); Bit { byte: 0 }; patch.header.count]?;
-    if let Err(row) = unpack(m, patch.cells, &mut cells) {
-        return print_refused(rt, row);
-    }
-    show(rt, &bytes_of(rt.alloc(), &cells)?)?;
-    let mut weights = vec![in rt.alloc(); 0i8; cells.len()]?;
-    match cost_against(&cells, &mut weights, m, mark) {
-        Ok(paid) => println!(rt; "The cost of the grade's mark against these cells: {paid}"),
-        Err(refusal) => print_refused(rt, refusal.number()),
-    }
+    let answer = unpack(m, patch.cells, &mut cells);
+    print_answer(rt, answer, |n| show_cost(rt, &cells[..n], m, mark))
 }
 
 // Reads a patch file, and prints its roll line and its cells, or the line of what it is refused with.
