@@ -19,7 +19,7 @@ impl fmt::Display for Digits<'_> {
     }
 }
 
-// Prints what a call answered, as its caller does, or what refused the call.
+// Prints what a call answered, as its caller does, or what refused the call. `tour` has the same: a crate for it alone would be no plainer.
 pub(crate) fn print_answer<T: Drop, E: fmt::Display + Drop, F: FnOnce(T) -> io::Result<()>>(
     rt: &HostRuntime,
     answer: Result<T, E>,

@@ -75,7 +75,7 @@ fn show(rt: &HostRuntime, mark: &[u8]) -> io::Result<()> {
     Ok(())
 }
 
-// Prints what a call answered, as its caller does, or what refused the call.
+// Prints what a call answered, as its caller does, or what refused the call. `cases` has the same: a crate for it alone would be no plainer.
 fn print_answer<T: Drop, E: fmt::Display + Drop, F: FnOnce(T) -> io::Result<()>>(
     rt: &HostRuntime,
     answer: Result<T, E>,

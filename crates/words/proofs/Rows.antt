@@ -1,6 +1,6 @@
 -- The first row that holds, through a chain of rows: what its number is, and what is known where none holds.
 use Rattle.std.proofs.Common.{◌≡◌, ℕ, ◌+◌, ◌^◌, ◌<◌, ◌≤◌, Bool, true, false, cond, not, eqb, ltb, List, [], ◌∷◌, length, Some, None, Option, sym, refl, ap, ◌∙◌, subst, inl, inr, arith}
-use Rattle.std.proofs.lemmas.Bool.{ltb-false, eqb-true, eq-eqb, le-ltb, cond-false}
+use Rattle.std.proofs.lemmas.Bool.{ltb-false, eqb-true, eq-eqb, le-ltb, cond-false, not-false}
 use Rattle.polynomials.specs.Binomials.{dimension}
 use Rattle.polynomials.specs.Messages.{Bits, Message}
 use Rattle.polynomials.specs.Words.{Encodes}
@@ -25,7 +25,8 @@ pub record Asked (bytes : List ℕ) (asked : ℕ) : Type 0 where
   pub long : length bytes ≡ asked
   pub bits : Bits bytes
 
-no_byte_row : (place : ℕ) (bs : List ℕ) → byte_row place bs ≡ None → Bits bs
+-- bytes with no row are bits
+pub no_byte_row : (place : ℕ) (bs : List ℕ) → byte_row place bs ≡ None → Bits bs
 no_byte_row place [] e = tt
 no_byte_row place (b ∷ bs) e =
     let n = no_row (ltb 1 b) (row_at 8 place (byte b)) (byte_row (place + 1) bs) e in
@@ -52,16 +53,9 @@ module _ (m r : ℕ) (bytes : List ℕ) (asked room needed : ℕ) where
   rows_none_asked e =
       let n = no_row _ _ _ (no_row (ltb m r) _ _ (no_row (ltb 8 m) _ _ e).1).1 in
       record {
-        long = eqb-true (length bytes) asked (not_false _ n.0);
+        long = eqb-true (length bytes) asked (not-false _ n.0);
         bits = no_byte_row 0 bytes (no_row _ _ _ n.1).1;
       }
-    where
-      not_false : (b : Bool) → not b ≡ false → b ≡ true
-      not_false true e = refl
-      not_false false e = sym e
-
-  pub rows_none_bytes : size_row m r (bytes_row bytes asked room needed) ≡ None → byte_row 0 bytes ≡ None
-  rows_none_bytes e = bits_no_row 0 bytes (rows_none_asked e).bits
 
   -- and where the sizes, the bytes and the room are as asked, no row holds
   pub asked_rows_none : m ≤ 8 → r ≤ m → Asked bytes asked → needed ≤ room → size_row m r (bytes_row bytes asked room needed) ≡ None
