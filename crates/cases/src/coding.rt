@@ -5,7 +5,7 @@ use crate::printing::{Digits, print_answer};
 use std::io;
 use words::{Refusal, dimension, encode, read_back};
 
-// A question: m, r, bytes, and how much room the answer has.
+// A question: m, r, bytes, and how much room the answer has. A tuple, as the files are, so that each question stands on a line.
 type Question = (u32, u32, &'static [u8], usize);
 
 // The questions to encode, with each of its rows.
@@ -66,6 +66,7 @@ pub(crate) fn dimensions(rt: &HostRuntime) -> io::Result<()> {
 
 // The rows of encode.
 pub(crate) fn encodings(rt: &HostRuntime) -> io::Result<()> {
+    // In a closure, since the check does not follow the bare name of another crate's function.
     ask(
         rt,
         "encode",
@@ -76,6 +77,7 @@ pub(crate) fn encodings(rt: &HostRuntime) -> io::Result<()> {
 
 // The rows of read_back.
 pub(crate) fn readings(rt: &HostRuntime) -> io::Result<()> {
+    // In a closure, as above.
     ask(
         rt,
         "read back",

@@ -96,6 +96,7 @@ const FILES: [(usize, [u8; 15]); 82] = [
 // Unpacks with room for so many cells, and prints the first cells of the buffer, which were 7 before, or the row.
 fn print_unpacked(rt: &HostRuntime, m: u32, bytes: &[u8], room: usize) -> io::Result<()> {
     let mut cells = vec![in rt.alloc(); Bit { byte: 7 }; room]?;
+    // By a match: no line ends here.
     match unpack(m, bytes, &mut cells) {
         Ok(n) => print!(rt; "{n} cells,")?,
         Err(row) => print!(rt; "refused {row},")?,

@@ -26,6 +26,7 @@ const LEVELS: [u32; 15] = [
 
 // Prints the weight of a cell, or its fault.
 fn print_reading<C: Cell>(rt: &HostRuntime, cell: &C) -> io::Result<()> {
+    // By a match: a fault prints no row of its own.
     match cell.read() {
         Ok(weight) => println!(rt; "weighs {weight}"),
         Err(fault) => println!(rt; "refused {}, {fault}", fault.number()),
@@ -65,6 +66,7 @@ fn ask_list<C: Cell>(rt: &HostRuntime, text: &str, cells: &[C], room: usize) -> 
     let mut weights = vec![in rt.alloc(); 7i8; room]?;
     print!(rt; "{text}, room {room}: ")?;
     print_answer(rt, check_cells(cells), |()| println!(rt; "checked"))?;
+    // By a match: the weights stand before the refusal.
     match weigh(cells, &mut weights) {
         Ok(n) => println!(rt; "    {n} cells weighed, the weights {weights:?}"),
         Err(refusal) => println!(rt; "    the weights {weights:?}, refused {refusal}"),

@@ -52,7 +52,7 @@ impl Cell for Pixel {
         if darkest > lightest {
             return Err(Fault::Levels(darkest, lightest));
         }
-        // At most 64 each; `From` goes from no `u8` to an `i8`.
+        // At most 64 each: the cast of a level is proved to a `u8` alone, and `From` goes from no `u8` to an `i8`.
         Ok(sixtyfourths(darkest) as i8 - 64 + sixtyfourths(lightest) as i8)
     }
 }

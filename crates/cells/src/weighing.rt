@@ -11,7 +11,7 @@ use words::{Refusal, check_room};
 pub fn check_cells<C: Cell>(cells: &[C]) -> Result<(), Refusal>
     ensures refused { refusal_of result ≡ cell_row 0 (map C.Cell.reading cells.now) }
 {
-    // A rule of the project: a loop with the place, and the first fault ends it.
+    // A rule of the project: a loop with the place, and the first fault ends it. The search over bytes is its twin, below where there are cells.
     for (place, cell) in cells.iter().enumerate() {
         cell.read().map_err(|fault| Refusal::At { place, fault })?;
     }
@@ -23,7 +23,8 @@ fn write_weights<C: Cell>(cells: &[C], weights: &mut [i8])
     requires room { length cells.now ≤ length weights.old }
     ensures { weights.new ≡ map (λ cell. weight_or_0 (C.Cell.reading cell)) cells.now ++ drop (length cells.now) weights.old }
 {
-    // By the place: after `weights.iter_mut().zip(cells)` nothing is known of what was written, so `returns` stays open.
+    // By the place: after `weights.iter_mut().zip(cells)` nothing is known of what was written, so `returns` stays open. Messages are written likewise: one
+    // function for both would have to say what a closure gives at each place.
     for (place, cell) in cells.iter().enumerate() {
         weights[place] = cell.read().unwrap_or(0);
     }

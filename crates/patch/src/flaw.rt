@@ -28,6 +28,7 @@ impl From<Flaw> for u8 {
 
     ghost from_gives = { λ flaw row. row ≡ flaw_row flaw };
 
+    // The discriminant: this is the conversion itself.
     fn from(flaw: Flaw) -> u8 {
         flaw as u8
     }

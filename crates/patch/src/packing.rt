@@ -66,6 +66,7 @@ fn check_packed(m: u32, bytes: &[u8], room: usize) -> Result<usize, Flaw>
     ensures held { IfOk result (λ n. n ≤ 8 * length bytes.now) }
     ensures fits { IfOk result (λ n. n ≤ room) }
 {
+    // By hand, as for a file: a refusal has cases that no flaw has.
     let variables = Variables::try_from(m).map_err(|_| Flaw::Variables)?;
     if bytes.len() != bytes_for(&variables) {
         return Err(Flaw::Count);

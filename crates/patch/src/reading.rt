@@ -27,6 +27,7 @@ fn patch_of(file: &[u8]) -> Result<Patch<'_>, Flaw>
     ensures patch { IfOk result (λ p. IsOf file.now p) }
 {
     let header = read_header(file)?;
+    // By hand, though `Code` and a reader test the same: their refusals have cases that no flaw has.
     let variables = Variables::try_from(header.variables).map_err(|_| Flaw::Variables)?;
     if header.order > header.variables {
         return Err(Flaw::Order);

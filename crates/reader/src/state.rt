@@ -1,17 +1,19 @@
 // What a reader holds.
-ghost use Rattle.std.specs.Prelude.{◌≡◌, ℕ, ◌<◌, None, slice_index};
+ghost use Rattle.std.specs.Prelude.{◌≡◌, None};
+ghost use Rattle.polynomials.specs.Messages.{Bits};
+ghost use Rattle.words.specs.Props.{bits_prop};
 
 use words::Code;
 
-// A message that was handed out, in the front of an array. That it is bits stands by place, since a ghost field has to be a proposition by its form.
+// A message that was handed out, in the front of an array of bits.
 #[derive(Clone, Copy, Drop)]
 pub(crate) struct Handed {
     pub(crate) message: [u8; 256],
-    ghost bits: { (place : ℕ) → slice_index message place < 2 },
+    ghost bits: { Bits message } by { bits_prop message },
 }
 
 // What a reader has been set to, and what has come since. It uses no heap: the weights and the last message lie in the front of arrays, since a mark
-// has at most 256 cells.
+// has at most 256 cells. (An `ArrayVec` would carry the length, but cannot be copied.)
 #[derive(Clone, Copy, Drop)]
 pub(crate) struct Setting {
     pub(crate) code: Code,

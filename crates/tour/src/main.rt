@@ -92,6 +92,7 @@ fn print_answer<T: Drop, E: fmt::Display + Drop, F: FnOnce(T) -> io::Result<()>>
 // Prints what reading back answered, and what the buffer for the message then holds.
 fn report(rt: &HostRuntime, answer: Result<usize, Refusal>, found: &[u8]) -> io::Result<()> {
     let message = digits(found);
+    // By a match: both answers have texts of their own.
     match answer {
         Ok(_) => println!(rt; "Read back: {message}"),
         Err(refusal) => println!(rt;

@@ -69,6 +69,7 @@ fn show_cells(rt: &HostRuntime, patch: &Patch<'_>, mark: &[u8]) -> io::Result<()
 
 // Reads a patch file, and prints its roll line and its cells, or the line of what it is refused with.
 fn show_file(rt: &HostRuntime, file: &[u8], mark: &[u8]) -> io::Result<()> {
+    // By a match: a file that is refused has its printed line.
     match read_patch(file) {
         Ok(patch) => {
             let name = patch.name;

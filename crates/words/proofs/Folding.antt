@@ -30,13 +30,13 @@ folded_values point (x ∷ ss) (c ∷ cs) s l b = by (inside x point) refl (λ s
         omega (arith, later s l, v)
 
 -- the bits of a table at the points inside a monomial, one after the other; these are the bits from point k on
-pub folded_table : (mono : ℕ) (table bits : List ℕ) (k s : ℕ) → ((i : ℕ) → get_or table i 0 < 2) → ((i : ℕ) → get_or table (k + i) 0 ≡ get_or bits i 0)
+pub folded_table : (mono : ℕ) (table bits : List ℕ) (k s : ℕ) → Bits bits → ((i : ℕ) → get_or table (k + i) 0 ≡ get_or bits i 0)
     → s ≡ total k (λ p. value p mono * get_or table p 0) % 2
     → fold (λ sum p. bit_xor sum p.1) s (filter (λ p. inside p.0 mono) (enumerate_from k bits))
     ≡ total (k + length bits) (λ p. value p mono * get_or table p 0) % 2
-folded_table mono table [] k s each same h = let e : k ≡ k + 0 = omega arith in h ∙ ap (λ n. total n (λ p. value p mono * get_or table p 0) % 2) e
+folded_table mono table [] k s b same h = let e : k ≡ k + 0 = omega arith in h ∙ ap (λ n. total n (λ p. value p mono * get_or table p 0) % 2) e
 folded_table mono table (b ∷ bs) k s each same h =
-    by (inside k mono) refl (λ s h. folded_table mono table bs (k + 1) s each later h) ∙ ap (λ n. total n (λ p. value p mono * get_or table p 0) % 2) longer
+    by (inside k mono) refl (λ s h. folded_table mono table bs (k + 1) s each.1 later h) ∙ ap (λ n. total n (λ p. value p mono * get_or table p 0) % 2) longer
   where
     f : ℕ → ℕ
     f p = value p mono * get_or table p 0
@@ -58,7 +58,7 @@ folded_table mono table (b ∷ bs) k s each same h =
         → fold (λ sum p. bit_xor sum p.1) s (cond t ((k, b) ∷ filter (λ p. inside p.0 mono) (enumerate_from (k + 1) bs)) (filter (λ p. inside p.0 mono) (enumerate_from (k + 1) bs)))
         ≡ total ((k + 1) + length bs) f % 2
     by true e rest =
-        let small : b < 2 = omega (arith, each k, here) in
+        let small : b < 2 = each.0 in
         let v = ap (λ t. t * get_or table k 0) (value_one k mono e) in
         rest (bit_xor s b) (omega (arith, h, here, more, v, xor_bits s b (omega (arith, h)) small))
     by false e rest =

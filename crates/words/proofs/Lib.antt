@@ -1,4 +1,3 @@
-pub mod Each
 pub mod Folding
 pub mod Gathering
 pub mod Lowness

@@ -5,7 +5,7 @@ ghost use Rattle.words.specs.Refusals.{refusal_of, room_row, byte_row, bytes_row
 
 use crate::refusals::{Fault, Refusal};
 
-// Refuses a buffer with less room than is needed.
+// Refuses a buffer with less room than is needed. Room and need are plain numbers, any two.
 pub fn check_room(room: usize, needed: usize) -> Result<(), Refusal>
     ensures refused { refusal_of result ≡ room_row room needed None }
     ensures room { OnOk result (needed ≤ room) }
@@ -21,7 +21,7 @@ fn check_bits(bytes: &[u8]) -> Result<(), Refusal>
     ensures refused { refusal_of result ≡ byte_row 0 bytes.now }
     ensures bits { OnOk result (Bits bytes.now) }
 {
-    // A rule of the project: a loop with the place, and the first fault ends it.
+    // A loop: with `position` the clauses `refused` and `bits` stay open. The search over cells is its twin, for kinds that are not known here.
     for (place, byte) in bytes.iter().enumerate() {
         if *byte > 1 {
             return Err(Refusal::At {

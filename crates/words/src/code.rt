@@ -19,8 +19,8 @@ pub struct Code {
 }
 
 impl Code {
-    // The code of order r in m variables. Refuses more than eight variables, and an order above their number. A narrower type for m and r would ask
-    // more of callers, here and in the calls on messages and tables.
+    // The code of order r in m variables. Refuses more than eight variables, and an order above their number. m and r are plain
+    // numbers: a narrower type would ask more of callers.
     pub fn new(m: u32, r: u32) -> Result<Code, Refusal>
         ensures refused { refusal_of result ≡ dimension_row m r }
         ensures code { IfOk result (λ code. (code.variables ≡ m) × (code.order ≡ r)) }
@@ -66,7 +66,7 @@ impl Code {
 }
 
 // The length k of a message of order r in m variables: the sum of the binomials m over i for i from 0 to r, which is the number of monomials
-// that order r admits.
+// that order r admits. m and r are plain numbers: a `Code` would ask more of callers.
 pub fn dimension(m: u32, r: u32) -> Result<usize, Refusal>
     ensures refused { refusal_of result ≡ dimension_row m r }
     ensures value { IfOk result (λ k. k ≡ dimension m r) }

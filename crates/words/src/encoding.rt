@@ -12,7 +12,7 @@ use crate::polynomial::Polynomial;
 use crate::refusals::Refusal;
 
 // The code of a message. Refuses what cannot be encoded into so much room. It does not answer the polynomial itself: the prover does not cover `?`
-// on a struct that holds a slice and ghost fields.
+// on a struct that holds a slice and ghost fields, and a `match` in its place would be no plainer.
 fn check_message(m: u32, r: u32, message: &[u8], room: usize) -> Result<Code, Refusal>
     ensures refused { refusal_of result ≡ encode_row m r message.now room }
     ensures sizes { OnOk result ((m ≤ 8) × (2 ^ m ≤ room)) }
@@ -24,7 +24,8 @@ fn check_message(m: u32, r: u32, message: &[u8], room: usize) -> Result<Code, Re
     Ok(code)
 }
 
-// Writes the word of a message of order r in m variables into the first n = 2^m bytes of the buffer, and answers n.
+// Writes the word of a message of order r in m variables into the first n = 2^m bytes of the buffer, and answers n. m and r are plain numbers: a `Code`
+// would ask more of callers.
 pub fn encode(m: u32, r: u32, message: &[u8], word: &mut [u8]) -> Result<usize, Refusal>
     ensures refused { refusal_of result ≡ encode_row m r message.now (length word.old) }
     ensures written { MatchResult result (λ n. (n ≡ 2 ^ m) × (word.new ≡ word_of m r message.now ++ drop n word.old)) (λ _. word.new ≡ word.old) }

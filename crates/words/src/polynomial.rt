@@ -1,5 +1,7 @@
 // Polynomials, and their values.
-ghost use Rattle.std.specs.Prelude.{◌≡◌, ℕ, ◌%◌, ◌^◌, ◌<◌, ◌≤◌, ◌++◌, length, drop, slice_index};
+ghost use Rattle.std.specs.Prelude.{◌≡◌, ℕ, ◌%◌, ◌^◌, ◌<◌, ◌≤◌, ◌++◌, length, drop};
+ghost use Rattle.polynomials.specs.Messages.{Bits};
+ghost use Rattle.words.specs.Props.{bits_prop};
 ghost use Rattle.polynomials.specs.Binomials.{dimension};
 ghost use Rattle.polynomials.specs.Monomials.{monomials};
 ghost use Rattle.polynomials.specs.Words.{sum_at, word_of};
@@ -13,7 +15,7 @@ pub(crate) struct Polynomial<'a> {
     pub(crate) code: Code,
     pub(crate) message: &'a [u8],
     ghost long: { length message.now ≡ dimension code.variables code.order },
-    ghost bits: { (place : ℕ) → slice_index message.now place < 2 },
+    ghost bits: { Bits message.now } by { bits_prop message.now },
 }
 
 impl Polynomial<'_> {

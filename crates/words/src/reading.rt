@@ -12,7 +12,8 @@ use crate::code::Code;
 use crate::refusals::Refusal;
 use crate::table::Table;
 
-// The code of a table. Refuses what cannot be read back into so much room. As for a message, it cannot answer the table itself.
+// The code of a table. Refuses what cannot be read back into so much room. As for a message, it does not answer the table itself; the
+// steps are those for a message with points and dimension exchanged.
 fn check_table(m: u32, r: u32, table: &[u8], room: usize) -> Result<Code, Refusal>
     ensures refused { ReadBackRow m r table.now room (refusal_of result) }
     ensures sizes { OnOk result ((m ≤ 8) × (dimension m r ≤ room)) }
@@ -27,7 +28,8 @@ fn check_table(m: u32, r: u32, table: &[u8], room: usize) -> Result<Code, Refusa
     Ok(code)
 }
 
-// Writes the only message of order r in m variables whose word the table is into the first k bytes of the buffer, and answers k.
+// Writes the only message of order r in m variables whose word the table is into the first k bytes of the buffer, and answers k. m
+// and r are plain numbers: a `Code` would ask more of callers.
 pub fn read_back(m: u32, r: u32, table: &[u8], message: &mut [u8]) -> Result<usize, Refusal>
     ensures refused { ReadBackRow m r table.now (length message.old) (refusal_of result) }
     ensures written { MatchResult result (λ k. (k ≡ dimension m r) × ReadsBack m r table.now (take k message.new) × (drop k message.new ≡ drop k message.old)) (λ _. message.new ≡ message.old) }

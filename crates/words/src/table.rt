@@ -1,5 +1,7 @@
 // Tables, and their coefficients.
-ghost use Rattle.std.specs.Prelude.{◌≡◌, ℕ, ◌^◌, ◌<◌, ◌≤◌, ◌++◌, length, drop, slice_index, ◌↔◌, IsTrue};
+ghost use Rattle.std.specs.Prelude.{◌≡◌, ℕ, ◌^◌, ◌<◌, ◌≤◌, ◌++◌, length, drop, ◌↔◌, IsTrue};
+ghost use Rattle.polynomials.specs.Messages.{Bits};
+ghost use Rattle.words.specs.Props.{bits_prop};
 ghost use Rattle.polynomials.specs.Binomials.{dimension};
 ghost use Rattle.polynomials.specs.Coefficients.{coefficient, coefficients, Degree≤};
 
@@ -12,7 +14,7 @@ pub(crate) struct Table<'a> {
     pub(crate) code: Code,
     pub(crate) bits: &'a [u8],
     ghost long: { length bits.now ≡ 2 ^ code.variables },
-    ghost each: { (point : ℕ) → slice_index bits.now point < 2 },
+    ghost each: { Bits bits.now } by { bits_prop bits.now },
 }
 
 impl Table<'_> {
@@ -42,7 +44,8 @@ impl Table<'_> {
         ensures length { result ≡ dimension self.now.code.variables self.now.code.order }
         ensures written { message.new ≡ coefficients self.now.code.variables self.now.code.order self.now.bits.now ++ drop result message.old }
     {
-        // By place: after `message.iter_mut().zip(..)` nothing is known of what was written, so `written` stays open.
+        // By place: after `message.iter_mut().zip(..)` nothing is known of what was written, so `written` stays open. Weights are written likewise: one
+        // function for both would have to say what a closure gives at each place.
         for (place, mono) in self.code.monomials().enumerate() {
             message[place] = self.coefficient_of(mono);
         }

@@ -37,6 +37,14 @@ impl TryFrom<u32> for Variables {
     }
 }
 
+impl From<Variables> for u32 {
+    ghost from_gives = { λ variables m. m ≡ variables };
+
+    fn from(variables: Variables) -> u32 {
+        variables.number
+    }
+}
+
 impl Variables {
     // The number of points.
     pub fn points(&self) -> usize

@@ -5,7 +5,6 @@ use Rattle.std.proofs.lemmas.Iterator.{YieldsList-from_slice, YieldsList-from_zi
 use Rattle.std.proofs.lemmas.Iterator.Consumers.{YieldsList-at, YieldsList-from_first, YieldsList-from_filter, fold_from_yields_List}
 use Rattle.polynomials.specs.Monomials.{inside, monomials}
 use Rattle.words.specs.Left.{monomials_left}
-use Rattle.words.proofs.Each.{bits_from_each}
 use Rattle.words.proofs.Folding.{folded_values}
 use Rattle.words.proofs.polynomial.Polynomial.value_at.Goals as goal
 
@@ -21,4 +20,4 @@ returns c =
     (YieldsList-at c.zip.ensures.second (YieldsList-from_slice message c.iter.ensures.rest))))
     c.filter.ensures.closure (λ x b q k. search (rules, tests)))
     (λ a x b q k. search rules) in
-    omega (arith, folded, folded_values c.args.point ss message 0 (omega arith) (bits_from_each message c.args.self.now.bits))
+    omega (arith, folded, folded_values c.args.point ss message 0 (omega arith) c.args.self.now.bits)
