@@ -126,6 +126,7 @@ pub(crate) fn costs(rt: &HostRuntime) -> io::Result<()> {
     ask_cost(rt, 1, &[1], &[0, 2])?;
     ask_cost(rt, 1, &[1, 1], &[2])?;
     ask_cost(rt, 1, &[1, 1], &[0, 2])?;
+    // By hand: `ask_cost` would print 256 weights.
     print!(rt; "cost, m=8 weights all 127 word all 1: ")?;
     let answer = cost(8, &[127i8; 256], &[1u8; 256]);
     print_answer(rt, answer, |paid| println!(rt; "{paid}"))

@@ -26,6 +26,7 @@ fn check_word(m: u32, weights: &[i8], word: &[u8]) -> Result<(), Refusal>
     if weights.len() != n {
         return Err(Refusal::Length);
     }
+    // No buffer is written, so no room is asked for.
     check_bytes(word, n, 0, 0)
 }
 

@@ -17,7 +17,7 @@ pub(crate) fn bytes_for(variables: &Variables) -> usize
     variables.points().div_ceil(8)
 }
 
-// The lowest bits of a byte, so many of them, as a number.
+// The lowest bits of a byte, so many of them, as a number: a mask, by the project's rule.
 fn low_bits(byte: u8, count: usize) -> u8
     requires { count < 8 }
     ensures { result ≡ byte % 2 ^ count }
@@ -25,7 +25,7 @@ fn low_bits(byte: u8, count: usize) -> u8
     byte & ((1 << count) - 1)
 }
 
-// The bit of a byte at a place from 0 to 7, the highest at 0.
+// The bit of a byte at a place from 0 to 7, the highest at 0: a shift, by the project's rule.
 fn bit_of(byte: u8, place: usize) -> u8
     requires { place < 8 }
     ensures { result ≡ bit_from_top byte place }

@@ -106,6 +106,7 @@ fn main(rt: HostRuntime) -> io::Result<()> {
     let mut found = [0u8; LENGTH];
     println!(rt; "A grade, as a message of order {ORDER} in {VARIABLES} variables:")?;
     println!(rt; "    {}", digits(&GRADE))?;
+    // By hand: the tour ends here, and `print_answer` would go on.
     if let Err(refusal) = round_trip(&GRADE, &mut mark, &mut found) {
         return println!(rt; "refused {refusal}");
     }

@@ -23,7 +23,7 @@ impl fmt::Display for Spelled<'_> {
     }
 }
 
-// Bits that are printed as digits.
+// Bits that are printed as digits. (In `cases` any bytes are, as numbers.)
 pub(crate) fn digits(bytes: &[u8]) -> Spelled<'_>
     ensures { spell result.zero.now result.one.now result.bytes.now ≡ spell (codes "0") (codes "1") bytes.now }
 {

@@ -5,7 +5,7 @@ ghost use Rattle.words.specs.Refusals.{refusal_of, room_row, byte_row, bytes_row
 
 use crate::refusals::{Fault, Refusal};
 
-// Refuses a buffer with less room than is needed. Room and need are plain numbers, any two.
+// Refuses a buffer with less room than is needed. A type for room and need would ask more of callers, who have any two numbers.
 pub fn check_room(room: usize, needed: usize) -> Result<(), Refusal>
     ensures refused { refusal_of result ≡ room_row room needed None }
     ensures room { OnOk result (needed ≤ room) }
@@ -33,7 +33,7 @@ fn check_bits(bytes: &[u8]) -> Result<(), Refusal>
     Ok(())
 }
 
-// Refuses bytes that are not as many as asked, a buffer with less room than is needed, and the first byte above 1.
+// Refuses bytes that are not as many as asked, a buffer with less room than is needed, and the first byte above 1. The numbers are any, as above.
 pub fn check_bytes(bytes: &[u8], asked: usize, room: usize, needed: usize) -> Result<(), Refusal>
     ensures refused { refusal_of result ≡ bytes_row bytes.now asked room needed }
     ensures asked { OnOk result ((length bytes.now ≡ asked) × (needed ≤ room) × Bits bytes.now) }

@@ -19,7 +19,8 @@ pub(crate) struct Polynomial<'a> {
 }
 
 impl Polynomial<'_> {
-    // The value at a point: the sum modulo 2 of the monomials that have the coefficient 1 and are 1 there.
+    // The value at a point: the sum modulo 2 of the monomials that have the coefficient 1 and are 1 there. Not one function with
+    // `Table::coefficient_of`: for any iterator its contract would have to say which pairs come.
     fn value_at(&self, point: usize) -> u8
         ensures { result ≡ sum_at (monomials self.now.code.variables self.now.code.order) self.now.message.now point % 2 }
     {

@@ -13,7 +13,7 @@ use crate::refusals::Refusal;
 use crate::table::Table;
 
 // The code of a table. Refuses what cannot be read back into so much room. As for a message, it does not answer the table itself; the
-// steps are those for a message with points and dimension exchanged.
+// steps are those for a message with points and dimension exchanged, and one function for both would take the two numbers in either order.
 fn check_table(m: u32, r: u32, table: &[u8], room: usize) -> Result<Code, Refusal>
     ensures refused { ReadBackRow m r table.now room (refusal_of result) }
     ensures sizes { OnOk result ((m ≤ 8) × (dimension m r ≤ room)) }

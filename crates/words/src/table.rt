@@ -18,8 +18,8 @@ pub(crate) struct Table<'a> {
 }
 
 impl Table<'_> {
-    // The coefficient of a monomial: the parity of the table over the points inside the monomial. Not one function with `Polynomial::value_at`: for
-    // any iterator its contract would have to say which pairs come.
+    // The coefficient of a monomial: the parity of the table over the points inside the monomial. Not one function with `Polynomial::value_at`, for
+    // the same reason.
     fn coefficient_of(&self, mono: usize) -> u8
         ensures { result ≡ coefficient self.now.code.variables self.now.bits.now mono }
     {
