@@ -57,6 +57,9 @@ module _ (m r : ℕ) (bytes : List ℕ) (asked room needed : ℕ) where
         bits = no_byte_row 0 bytes (no_row _ _ _ n.1).1;
       }
 
+  pub rows_none_bytes : size_row m r (bytes_row bytes asked room needed) ≡ None → byte_row 0 bytes ≡ None
+  rows_none_bytes e = bits_no_row 0 bytes (rows_none_asked e).bits
+
   -- and where the sizes, the bytes and the room are as asked, no row holds
   pub asked_rows_none : m ≤ 8 → r ≤ m → Asked bytes asked → needed ≤ room → size_row m r (bytes_row bytes asked room needed) ≡ None
   asked_rows_none few low v long =

@@ -1,12 +1,13 @@
 // Codes, and their dimension.
-ghost use Rattle.std.specs.Prelude.{◌≡◌, ◌^◌, ◌≤◌, length, IfOk, OnOk};
+ghost use Rattle.std.specs.Prelude.{◌≡◌, ◌^◌, ◌<◌, ◌≤◌, length, take, drop, IfOk, OnOk};
+ghost use Rattle.std.specs.List.{AllByRecursion};
 ghost use Rattle.polynomials.specs.Monomials.{monomials};
 ghost use Rattle.polynomials.specs.Binomials.{dimension};
 ghost use Rattle.polynomials.specs.Laws.{MonomialsCounted};
 ghost use Rattle.words.specs.Left.{monomials_left};
 ghost use Rattle.words.specs.Refusals.{refusal_of, dimension_row};
 
-use crate::monomials::Monomials;
+use crate::monomials::{Monomials, is_admitted};
 use crate::refusals::Refusal;
 use crate::variables::Variables;
 
@@ -48,10 +49,23 @@ impl Code {
     pub(crate) fn monomials(&self) -> Monomials
         ensures left { monomials_left result ≡ monomials self.now.variables self.now.order }
         ensures bound { length (monomials_left result) ≤ 256 }
+        ensures small { AllByRecursion (λ mono. mono < 256) (monomials_left result) }
     {
         Monomials {
             order: self.order,
             below: self.points(),
+        }
+    }
+
+    // Writes the admitted monomials into the front of the buffer, in prefix order.
+    pub(crate) fn write_monomials(&self, monos: &mut [u8; 256])
+        ensures few { dimension self.now.variables self.now.order ≤ 256 }
+        ensures written { take (dimension self.now.variables self.now.order) monos.new ≡ monomials self.now.variables self.now.order }
+        ensures rest { drop (dimension self.now.variables self.now.order) monos.new ≡ drop (dimension self.now.variables self.now.order) monos.old }
+    {
+        // By place, as messages are written. Each is below 256: the cast loses nothing.
+        for (place, mono) in self.monomials().enumerate() {
+            monos[place] = mono as u8;
         }
     }
 
@@ -61,7 +75,10 @@ impl Code {
         ensures counted { result ≡ length (monomials self.now.variables self.now.order) }
         ensures bound { result ≤ 256 }
     {
-        self.monomials().count()
+        // A sum, and not a count of `monomials`: it takes the same steps for each number, and so less time.
+        (0..self.points())
+            .map(|mono| usize::from(is_admitted(self.order, mono)))
+            .sum()
     }
 }
 

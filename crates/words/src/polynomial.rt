@@ -19,16 +19,20 @@ pub(crate) struct Polynomial<'a> {
 }
 
 impl Polynomial<'_> {
-    // The value at a point: the sum modulo 2 of the monomials that have the coefficient 1 and are 1 there. Not one function with
-    // `Table::coefficient_of`: for any iterator its contract would have to say which pairs come.
-    fn value_at(&self, point: usize) -> u8
+    // The value at a point, with the admitted monomials at hand: the sum modulo 2 of those that have the coefficient 1 and are 1 there. Not one function
+    // with `Table::coefficient_of`: for any iterator its contract would have to say which pairs come.
+    fn value_at(&self, monos: &[u8], point: usize) -> u8
+        requires { monos.now ≡ monomials self.now.code.variables self.now.code.order }
         ensures { result ≡ sum_at (monomials self.now.code.variables self.now.code.order) self.now.message.now point % 2 }
     {
-        self.code
-            .monomials()
-            .zip(self.message.iter())
-            .filter(|(mono, _)| is_inside(*mono, point))
-            .fold(0, |sum, (_, bit)| sum ^ *bit)
+        monos.iter().zip(self.message.iter()).fold(
+            0,
+            |sum, (mono, bit)| if is_inside(usize::from(*mono), point) {
+                sum ^ *bit
+            } else {
+                sum
+            },
+        )
     }
 
     // Writes the word, its value at each point, into the front of the buffer, and answers the number of points.
@@ -38,8 +42,12 @@ impl Polynomial<'_> {
         ensures written { word.new ≡ word_of self.now.code.variables self.now.code.order self.now.message.now ++ drop result word.old }
     {
         let n = self.code.points();
+        // Found once for all points. No heap: room for as many as there can be.
+        let mut monos = [0; 256];
+        self.code.write_monomials(&mut monos);
+        let monos = &monos[..self.message.len()];
         for (point, cell) in word[..n].iter_mut().enumerate() {
-            *cell = self.value_at(point);
+            *cell = self.value_at(monos, point);
         }
         n
     }

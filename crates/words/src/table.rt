@@ -23,11 +23,14 @@ impl Table<'_> {
     fn coefficient_of(&self, mono: usize) -> u8
         ensures { result ≡ coefficient self.now.code.variables self.now.bits.now mono }
     {
-        self.bits
-            .iter()
-            .enumerate()
-            .filter(|(point, _)| is_inside(*point, mono))
-            .fold(0, |sum, (_, bit)| sum ^ *bit)
+        self.bits.iter().enumerate().fold(
+            0,
+            |sum, (point, bit)| if is_inside(point, mono) {
+                sum ^ *bit
+            } else {
+                sum
+            },
+        )
     }
 
     // Whether the coefficient of each monomial that the order does not admit is 0.
