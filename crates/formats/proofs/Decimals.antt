@@ -11,6 +11,10 @@ use Rattle.formats.specs.Decimals.{said, Decimals}
 pub length_decimal_digit : (n : ℕ) → n < 10 → length (decimal n) ≡ 1
 length_decimal_digit n l = ap length (decimal_digit n l)
 
+-- any other number has one digit more than its tenth
+pub length_decimal_step : (n : ℕ) → 10 ≤ n → n < 2 ^ 64 → length (decimal n) ≡ length (decimal (n / 10)) + 1
+length_decimal_step n ten l = ap length (decimal_step n ten l) ∙ length_push (decimal (n / 10)) (48 + n % 10)
+
 -- a number of 64 bits has at most 20
 pub length_decimal_most : (n : ℕ) → n < 2 ^ 64 → length (decimal n) ≤ 20
 length_decimal_most n l = length-decimal-le 20 n (lit< tt) (omega arith) l

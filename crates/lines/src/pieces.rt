@@ -1,10 +1,10 @@
 // The pieces of a line, one after another.
-ghost use Rattle.std.specs.Prelude.{◌≡◌, ◌<◌, ◌≤◌, ◌^◌, ◌++◌, map, length, drop, None, IfOk};
+ghost use Rattle.std.specs.Prelude.{◌≡◌, ◌<◌, ◌≤◌, ◌^◌, ◌++◌, map, length, drop, decimal, None, IfOk};
 ghost use Rattle.words.specs.Refusals.{refusal_of, room_row};
 ghost use Rattle.lines.specs.Pieces.{digit, bytes_of, text};
 ghost use Rattle.lines.specs.Rows.{Wrote};
 
-use itoa::Buffer;
+use itoa::{Buffer, write_digits};
 use words::{Refusal, check_room};
 
 // A piece of a line.
@@ -39,7 +39,7 @@ impl Piece<'_> {
         match self {
             Piece::Bytes(bytes) => put_bytes(bytes, line),
             Piece::Bits(bits) => put_bits(bits, line),
-            Piece::Number(n) => put_bytes(Buffer::new().format(*n).as_bytes(), line),
+            Piece::Number(n) => put_number(*n, line),
         }
     }
 }
@@ -62,6 +62,8 @@ fn digit(bit: u8) -> u8
 }
 
 // Puts bits as the digits 0 and 1 into the front of the buffer, and answers how many they are.
+// Not inlined, so that the loop over the pieces is short enough to unroll.
+#[inline(never)]
 fn put_bits(bits: &[u8], line: &mut [u8]) -> usize
     requires { length bits.now ≤ length line.old }
     ensures after { result ≡ length bits.now }
@@ -75,6 +77,23 @@ fn put_bits(bits: &[u8], line: &mut [u8]) -> usize
     n
 }
 
+// Puts a number in decimal digits into the front of the buffer, and answers how many they are.
+// Not inlined, as above.
+#[inline(never)]
+fn put_number(n: u64, line: &mut [u8]) -> usize
+    requires { length (decimal n) ≤ length line.old }
+    ensures after { result ≡ length (decimal n) }
+    ensures put { line.new ≡ decimal n ++ drop result line.old }
+{
+    // One digit needs no count of digits first.
+    if n < 10 {
+        return put_bytes(&[b'0' + n as u8], line);
+    }
+    let end = Piece::Number(n).len();
+    write_digits(n, line, end);
+    end
+}
+
 // How many bytes the pieces have together.
 pub(crate) fn length(pieces: &[Piece]) -> usize
     requires { length (text pieces.now) < 2 ^ 64 }
@@ -84,6 +103,8 @@ pub(crate) fn length(pieces: &[Piece]) -> usize
 }
 
 // Puts the pieces into the front of the buffer, and answers how many bytes they have together.
+// Inlined, so that the loop unrolls over a line's known pieces.
+#[inline(always)]
 pub(crate) fn put(pieces: &[Piece], line: &mut [u8]) -> usize
     requires { length (text pieces.now) ≤ length line.old }
     ensures after { result ≡ length (text pieces.now) }
@@ -98,6 +119,8 @@ pub(crate) fn put(pieces: &[Piece], line: &mut [u8]) -> usize
 }
 
 // Writes the pieces as a line into the front of the buffer, where they have room, and answers the line's length.
+// Inlined, as above.
+#[inline(always)]
 pub(crate) fn write(pieces: &[Piece], line: &mut [u8]) -> Result<usize, Refusal>
     requires { length (text pieces.now) < 2 ^ 64 }
     ensures refused { refusal_of result ≡ room_row (length line.old) (length (text pieces.now)) None }
