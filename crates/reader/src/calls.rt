@@ -27,6 +27,24 @@ fn check_radius(radius: u32) -> Result<(), Refusal>
     Ok(())
 }
 
+// Empties an option, and writes nothing where it is empty.
+fn clear<T: Drop>(option: &mut Option<T>)
+    ensures { option.new ≡ None }
+{
+    if option.is_some() {
+        write_none(option);
+    }
+}
+
+// Writes a `None`, which fills the whole room of the option. Kept out of line, so that a call that has none to write saves no registers for it.
+#[cold]
+#[inline(never)]
+fn write_none<T: Drop>(option: &mut Option<T>)
+    ensures { option.new ≡ None }
+{
+    *option = None;
+}
+
 impl Reader {
     // A reader that is not set.
     pub fn new() -> Reader
@@ -53,12 +71,22 @@ impl Reader {
     {
         let code = Code::new(m, r)?;
         check_radius(radius)?;
-        self.setting = Some(Setting {
-            code,
-            radius,
-            weights: None,
-            last: None,
-        });
+        match &mut self.setting {
+            Some(kept) => {
+                kept.code = code;
+                kept.radius = radius;
+                clear(&mut kept.weights);
+                clear(&mut kept.last);
+            }
+            None => {
+                self.setting = Some(Setting {
+                    code,
+                    radius,
+                    weights: None,
+                    last: None,
+                });
+            }
+        }
         Ok(())
     }
 
@@ -69,8 +97,9 @@ impl Reader {
         ensures history { (h : Trace) → LedTo h (view self.old) → RadiusLaw (shape_of h) radius (done_or result) × LedTo (event (radius_call radius) (done_or result) [] ∷ h) (view self.new) }
     {
         check_radius(radius)?;
-        let setting = self.setting()?.rewound();
-        self.setting = Some(Setting { radius, ..setting });
+        let setting = self.setting.as_mut().ok_or(Refusal::Unset)?;
+        setting.radius = radius;
+        clear(&mut setting.last);
         Ok(())
     }
 
@@ -80,9 +109,11 @@ impl Reader {
         ensures state { MatchResult result (λ _. view self.new ≡ rewound (view self.old)) (λ _. self.new ≡ self.old) }
         ensures history { (h : Trace) → LedTo h (view self.old) → RewindLaw (shape_of h) (weights_of h) (done_or result) × LedTo (event rewind_call (done_or result) [] ∷ h) (view self.new) }
     {
-        let setting = self.setting()?;
-        setting.weights.ok_or(Refusal::NoCells)?;
-        self.setting = Some(setting.rewound());
+        let setting = self.setting.as_mut().ok_or(Refusal::Unset)?;
+        if setting.weights.is_none() {
+            return Err(Refusal::NoCells);
+        }
+        clear(&mut setting.last);
         Ok(())
     }
 
