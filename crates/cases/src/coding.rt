@@ -2,6 +2,7 @@
 ghost use Rattle.std.specs.Prelude.{◌≤◌, length, IfOk};
 
 use crate::printing::{Digits, print_answer};
+use arrayvec::ArrayVec;
 use std::io;
 use words::{Refusal, dimension, encode, read_back};
 
@@ -35,7 +36,7 @@ fn ask_dimension(rt: &HostRuntime, m: u32, r: u32) -> io::Result<()> {
     print_answer(rt, dimension(m, r), |k| println!(rt; "{k}"))
 }
 
-// Makes a call on each question, and prints the question, with the call's name, and the answer.
+// Makes a call on each question, with room for 256 bytes at most, and prints the question, with the call's name, and the answer.
 fn ask<F: Fn(u32, u32, &[u8], &mut [u8]) -> Result<usize, Refusal>>(
     rt: &HostRuntime,
     name: &str,
@@ -46,7 +47,8 @@ fn ask<F: Fn(u32, u32, &[u8], &mut [u8]) -> Result<usize, Refusal>>(
     requires bound { (m : _) (r : _) (bytes : _) (buffer : _) (answer : _) (after : _) → F.post call m r bytes buffer answer after → IfOk answer (λ n. n ≤ length buffer.now) }
 {
     for (m, r, bytes, room) in questions {
-        let mut buffer = vec![in rt.alloc(); 0u8; *room]?;
+        let mut buffer = ArrayVec::from([0u8; 256]);
+        buffer.truncate(*room);
         print!(rt; "{name}, m={m} r={r} room {room}, {}: ", Digits(bytes))?;
         let answer = call(*m, *r, bytes, &mut buffer);
         print_answer(rt, answer, |n| println!(rt; "{}", Digits(&buffer[..n])))?;

@@ -1,11 +1,11 @@
 // Patch files at the edges, and packed cells.
-ghost use Rattle.std.specs.Prelude.{◌≡◌, ◌++◌, take, replicate, IfOk};
+ghost use Rattle.std.specs.Prelude.{◌≡◌, ◌++◌, take, drop, replicate};
 
 use crate::printing::print_answer;
+use arrayvec::ArrayVec;
 use cells::Bit;
 use patch::{Patch, read_patch, unpack};
-use std::alloc::{AllocError, Global};
-use std::{io, iter};
+use std::io;
 
 // Files to try: the size of each, and its first 15 bytes. All other bytes are 0.
 const FILES: [(usize, [u8; 15]); 82] = [
@@ -93,11 +93,13 @@ const FILES: [(usize, [u8; 15]); 82] = [
     (20, [2, 1, 0, 1, 0, 4, 0, 12, 0, 2, 0, 13, 255, 0, 0]),
 ];
 
-// Unpacks with room for so many cells, and prints the first cells of the buffer, which were 7 before, or the row.
+// Unpacks with room for so many cells, 256 at most, and prints the first cells of the buffer, which were 7 before, or the row.
 fn print_unpacked(rt: &HostRuntime, m: u32, bytes: &[u8], room: usize) -> io::Result<()> {
-    let mut cells = vec![in rt.alloc(); Bit { byte: 7 }; room]?;
+    // By a slice: `truncate` of an `ArrayVec` asks for a default, and a cell has none.
+    let mut buffer = [Bit { byte: 7 }; 256];
+    let cells = &mut buffer[..room.min(256)];
     // By a match: no line ends here.
-    match unpack(m, bytes, &mut cells) {
+    match unpack(m, bytes, cells) {
         Ok(n) => print!(rt; "{n} cells,")?,
         Err(row) => print!(rt; "refused {row},")?,
     }
@@ -113,21 +115,20 @@ fn print_patch(rt: &HostRuntime, patch: &Patch<'_>) -> io::Result<()> {
     print_unpacked(rt, patch.header.variables, patch.cells, 256)
 }
 
-// A file of so many bytes: these, and 0 after them.
-fn begun_with(heap: Global, size: usize, bytes: &[u8; 15]) -> Result<Vec<u8>, AllocError>
-    ensures { IfOk result (λ file. file.items ≡ take size (bytes.now ++ replicate size 0)) }
+// A file of so many bytes, 4,097 at most: these, and 0 after them.
+fn begun_with(size: usize, bytes: &[u8; 15]) -> ArrayVec<u8, 4097>
+    ensures { result.items ≡ take size (bytes.now ++ drop 15 (replicate 4097 0)) }
 {
-    bytes
-        .iter()
-        .copied()
-        .chain(iter::repeat_n(0, size))
-        .take(size)
-        .collect(heap)
+    let mut longest = [0; 4097];
+    longest[..15].copy_from_slice(bytes);
+    let mut file = ArrayVec::from(longest);
+    file.truncate(size);
+    file
 }
 
 // Reads a file of so many bytes that begins with these, and prints the answer.
 fn ask_file(rt: &HostRuntime, size: usize, bytes: &[u8; 15]) -> io::Result<()> {
-    let file = begun_with(rt.alloc(), size, bytes)?;
+    let file = begun_with(size, bytes);
     print_answer(rt, read_patch(&file), |patch| print_patch(rt, &patch))
 }
 

@@ -1,11 +1,12 @@
 // The printed lines: with room to spare, with just the room, and with too little.
 use crate::printing::print_answer;
+use arrayvec::ArrayVec;
 use lines::{end_line, refused_line, roll_line, stop_line, word_line};
 use std::io;
 use std::io::Write;
 use words::Refusal;
 
-// Asks for a line in buffers with room for so many bytes, and prints each answer and all of its buffer, which was dots before.
+// Asks for a line in buffers with room for so many bytes, 64 at most, and prints each answer and all of its buffer, which was dots before.
 fn ask<F: Fn(&mut [u8]) -> Result<usize, Refusal>>(
     rt: &HostRuntime,
     rooms: &[usize],
@@ -14,7 +15,8 @@ fn ask<F: Fn(&mut [u8]) -> Result<usize, Refusal>>(
     requires { F.IsAlwaysCallable line }
 {
     for room in rooms {
-        let mut buffer = vec![in rt.alloc(); b'.'; *room]?;
+        let mut buffer = ArrayVec::from([b'.'; 64]);
+        buffer.truncate(*room);
         print!(rt; "line, room {room}: ")?;
         print_answer(rt, line(&mut buffer), |n| println!(rt; "{n} bytes"))?;
         rt.stdout().write_all(&buffer)?;

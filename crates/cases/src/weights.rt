@@ -1,6 +1,7 @@
 // Pixels at the edges, lists of cells with faults, and costs.
 use crate::printing::print_answer;
 use crate::strength::Strength;
+use arrayvec::ArrayVec;
 use cells::{Bit, Cell, Pixel, check_cells, cost, weigh};
 use std::io;
 use std::num::f32_from_bits_with_nan;
@@ -59,11 +60,12 @@ fn ask_bit(rt: &HostRuntime, byte: u8) -> io::Result<()> {
     print_reading(rt, &Bit { byte })
 }
 
-// Checks a list of cells, then weighs it with room for so many weights, and prints the question, with the cells as this text, the answers and the
-// weights, which were 7 before.
+// Checks a list of cells, then weighs it with room for so many weights, 4 at most, and prints the question, with the cells as this text, the answers
+// and the weights, which were 7 before.
 // The text is given beside the cells: each kind prints in its own way, and two of them are types of another crate.
 fn ask_list<C: Cell>(rt: &HostRuntime, text: &str, cells: &[C], room: usize) -> io::Result<()> {
-    let mut weights = vec![in rt.alloc(); 7i8; room]?;
+    let mut weights = ArrayVec::from([7i8; 4]);
+    weights.truncate(room);
     print!(rt; "{text}, room {room}: ")?;
     print_answer(rt, check_cells(cells), |()| println!(rt; "checked"))?;
     // By a match: the weights stand before the refusal.
