@@ -47,6 +47,7 @@ fn ask<F: Fn(u32, u32, &[u8], &mut [u8]) -> Result<usize, Refusal>>(
     requires bound { (m : _) (r : _) (bytes : _) (buffer : _) (answer : _) (after : _) → F.post call m r bytes buffer answer after → IfOk answer (λ n. n ≤ length buffer.now) }
 {
     for (m, r, bytes, room) in questions {
+        // No heap: an array, cut to the room.
         let mut buffer = ArrayVec::from([0u8; 256]);
         buffer.truncate(*room);
         print!(rt; "{name}, m={m} r={r} room {room}, {}: ", Digits(bytes))?;

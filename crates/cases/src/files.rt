@@ -119,6 +119,7 @@ fn print_patch(rt: &HostRuntime, patch: &Patch<'_>) -> io::Result<()> {
 fn begun_with(size: usize, bytes: &[u8; 15]) -> ArrayVec<u8, 4097>
     ensures { result.items ≡ take size (bytes.now ++ drop 15 (replicate 4097 0)) }
 {
+    // No heap: the longest file, cut to the size.
     let mut longest = [0; 4097];
     longest[..15].copy_from_slice(bytes);
     let mut file = ArrayVec::from(longest);

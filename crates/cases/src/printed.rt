@@ -15,6 +15,7 @@ fn ask<F: Fn(&mut [u8]) -> Result<usize, Refusal>>(
     requires { F.IsAlwaysCallable line }
 {
     for room in rooms {
+        // No heap: an array, cut to the room.
         let mut buffer = ArrayVec::from([b'.'; 64]);
         buffer.truncate(*room);
         print!(rt; "line, room {room}: ")?;

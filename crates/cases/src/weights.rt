@@ -64,6 +64,7 @@ fn ask_bit(rt: &HostRuntime, byte: u8) -> io::Result<()> {
 // and the weights, which were 7 before.
 // The text is given beside the cells: each kind prints in its own way, and two of them are types of another crate.
 fn ask_list<C: Cell>(rt: &HostRuntime, text: &str, cells: &[C], room: usize) -> io::Result<()> {
+    // No heap: an array, cut to the room.
     let mut weights = ArrayVec::from([7i8; 4]);
     weights.truncate(room);
     print!(rt; "{text}, room {room}: ")?;

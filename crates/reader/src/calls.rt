@@ -71,6 +71,7 @@ impl Reader {
     {
         let code = Code::new(m, r)?;
         check_radius(radius)?;
+        // In place where there is a setting: one that is assigned is written over whole.
         match &mut self.setting {
             Some(kept) => {
                 kept.code = code;
